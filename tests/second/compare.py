@@ -293,9 +293,18 @@ def expect(what, words, given, expected):
     raise Differs
 
 
-def compare_made(name, made, capacity, asked):
+def compare_told(name, transcript, capacity, ends):
+    """Compares what `audit --table auto` says of a transcript, and of one that tells another size or one that there isn't."""
+    expect(name, ["audit", "--table", "auto"], transcript, ends)
+    for size in ("100", "0512", "65536", str(next(size for size in model.SIZES if size != capacity))):
+        text = transcript.replace(f"\ntable {capacity}\n", f"\ntable {size}\n", 1)
+        if fault := model.size_fault(text, model.told_size(text)):
+            expect(name, ["audit", "--table", "auto"], text, (1, "", fault))
+
+
+def compare_made(name, made, capacity, asked, word=None):
     """Compares all that the program says of a scenario, and tells how it ended."""
-    table = ["--table", "small" if capacity == 4 else "large"]
+    table = ["--table", word or str(capacity)]
     status, report, fault, world = model.run(made, capacity, DRAIN_LIMIT)
     given = document(made)
     expect(name, ["run", *table], given, (status, report, fault))
@@ -311,21 +320,28 @@ def compare_made(name, made, capacity, asked):
     expect(name, ["run", "--transcript", *flags, *table], given, (ends, transcript, ""))
     expect(name, ["audit", *table], transcript, (status, report, ""))
     expect(name, ["audit", *flags, *table], transcript, (ends, parts, ""))
+    compare_told(name, transcript, capacity, (status, report, ""))
     if world.is_whole():
         expect(name, ["audit", *table], world.transcript("ms"), (status, report, ""))
     verdict = world.network_verdict() if "network" in asked else world.verdict()
     return ("network " if "network" in asked else "") + " ".join(verdict.split()[: 1 if ends == 0 else 2])
 
 
+def size(chance):
+    """A size of tables, by its word: mostly small, where tables forget, or large."""
+    word = chance.choice(["small", "small", "large", *model.SIZE_WORDS])
+    return word, model.SIZE_WORDS[word]
+
+
 def compare_scenario(seed):
     chance = random.Random(seed)
-    capacity = chance.choice([4, 512])
+    word, capacity = size(chance)
     try:
         made = scenario(chance, capacity)
     except model.Unsettled:
         return "left out"
     asked = [part for part in ("load", "latency", "deliveries", "needed", "budget", "network") if chance.random() < 0.8]
-    return compare_made(f"seed {seed}", made, capacity, asked)
+    return compare_made(f"seed {seed}", made, capacity, asked, word)
 
 
 def far_edges():
@@ -343,9 +359,9 @@ def far_edges():
 
 def compare_node(seed):
     chance = random.Random(seed)
-    mode, capacity, unit = chance.choice("HNU"), chance.choice([4, 512]), chance.choice(["ms", "us"])
+    mode, (word, capacity), unit = chance.choice("HNU"), size(chance), chance.choice(["ms", "us"])
     lines = node_lines(chance, unit)
-    words = ["node", "--mode", mode, "--table", "small" if capacity == 4 else "large"]
+    words = ["node", "--mode", mode, "--table", word]
     words += ["--unit", unit] if unit == "us" else []
     expect(f"seed {seed}", words, model.text(lines), (0, model.node_run(lines, mode, capacity, unit), ""))
     return "node"

@@ -9,6 +9,8 @@ from itertools import accumulate
 SUPERVISION = bytes.fromhex("01154E000100")
 VLAN, HSR, SUPERVISION_TYPE = 0x8100, 0x892F, 0x88FB
 ENTRY_FORGET, PROXY_FORGET, PROXIES = 400_000, 60_000_000, 64
+SIZES = [4, 8, 16, 32, 64, 128, 256, 512, 1024, 2048, 4096, 8192, 16384, 32768, 65535]  # how many entries a table may have
+SIZE_WORDS = {"small": 4, "large": 512, **{str(size): size for size in SIZES}}
 MICROSECONDS = {"ms": 1000, "us": 1}  # in one of the unit in which a text tells moments
 PORTS = {"danh": "AB", "redbox": "ABI", "quadbox": "ABCD", "station": "P"}
 CAUSES = ["duplicate", "returned", "foreign", "local", "untagged", "tagged", "malformed"]
@@ -845,3 +847,17 @@ def judgement(node, at, port, octets):
 def node_run(lines, mode, capacity, unit="ms"):
     node = Node(0, {"role": "danh", "mac": "02-00-00-00-00-01", "mode": mode}, capacity)
     return text([line for asked in lines for line in answered(node, asked, unit)] + [node.counters()])
+
+
+def told_size(transcript):
+    """How many entries the tables have of which a transcript tells, or 512 where it tells none that there is."""
+    first, _, rest = transcript.partition("\n")
+    second, ended, _ = rest.partition("\n")
+    told = second.removeprefix("table ")
+    is_told = first in ("hsr-bench 1", "hsr-bench 2") and second != told and ended and told in map(str, SIZES)
+    return int(told) if is_told else 512
+
+
+def size_fault(transcript, size):
+    """The fault of a transcript with a good first line, where its second one isn't that of tables of this size."""
+    return "" if transcript.split("\n")[1] == f"table {size}" else "fault: transcript line 2\n"

@@ -14,7 +14,7 @@ What is excused:
 - Of a payload of type "goose" or "sv" nothing is compared.
 - In which order copies are put, taken and judged at one moment is compared with no other reading: model.py plays the steps as they stand.
 - A sweep is compared where it ends. Its line on a terminal isn't looked at.
-- With the small tables, which may forget, the bench may end a run as unsettled.
+- With tables of fewer than 512 entries, which may forget, the bench may end a run as unsettled.
 
 The first difference is shown, with its plan, and ends it. The last line but one says how many plans were told, how many of these by hops,
 how many were swept, and how many were faults, each by its reason; the last how many passed and failed.
@@ -35,7 +35,7 @@ GROUP = "01-0C-CD-01-00-01"
 TYPES = {"goose": 0x88B8, "sv": 0x88BA}
 SHORTEST = {"goose": lambda name: 75 + 3 * len(name), "sv": lambda name: 98 + len(name)}  # octets of a sender's first frame, for names to 20 octets
 ENDLESS = 1 << 41
-TABLES = {"small": 4, "large": 512}
+TABLES = model.SIZE_WORDS
 
 
 # ---- a random plan
@@ -475,7 +475,7 @@ def swept(said, at):
 def played(scenario, table):
     """What the bench says of a refused step, or None. Where a small table forgets what it needs, copies may go round for ever."""
     ended = subprocess.run([BENCH, "run", "--table", table], input=scenario, capture_output=True, text=True, timeout=120)
-    if ended.returncode in (0, 2) or table == "small" and ended.stderr.endswith(" unsettled\n"):
+    if ended.returncode in (0, 2) or TABLES[table] < 512 and ended.stderr.endswith(" unsettled\n"):
         return None
     return ended.stderr
 
@@ -483,7 +483,7 @@ def played(scenario, table):
 def faulty(plan, table, ended):
     """The reason that a fault's line tells, and what is wrong with it, or None."""
     reasons = [*Meaning(plan).reasons()]
-    if table == "small" and hop_of(plan):
+    if TABLES[table] < 512 and hop_of(plan):
         reasons.append("copies are still on their way after ")
     line = ended.stderr
     reason = next((reason for reason in reasons if reason in line), None)
@@ -517,12 +517,12 @@ def told(plan, table, scenario):
     read = tomllib.loads(scenario)
     if not scenario.startswith(comments(plan, read)):
         return f"the comments: not {comments(plan, read)}"
-    return check(plan, read, TABLES[table]) or (table == "large" and checked(scenario)) or (BENCH and played(scenario, table))
+    return check(plan, read, TABLES[table]) or (TABLES[table] == 512 and checked(scenario)) or (BENCH and played(scenario, table))
 
 
 def one(seed, counts):
     """Plans one random plan, and counts it. What is wrong, or None."""
-    said, table = text(random_plan(random.Random(seed))), "small" if seed % 4 == 0 else "large"
+    said, table = text(random_plan(random.Random(seed))), random.Random(-seed).choice(["small", "large", "large", *TABLES])
     plan = tomllib.loads(said)
     ended = subprocess.run([PLANNER, "--table", table], input=said, capture_output=True, text=True, timeout=60)
     if ended.returncode:

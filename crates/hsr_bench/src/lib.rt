@@ -14,7 +14,7 @@ mod performing;
 pub use benching::bench;
 pub use hsr_cli::{OptionFault, options};
 pub use hsr_commands::{
-    Asked, Fault, Form, NodeOptions, Scope, Showing, Status, TableSize, TimeUnit, TranscriptFault,
-    audit_run, node_run, scenario_run, threads_run,
+    Asked, Fault, Form, NodeOptions, Scope, Showing, Status, TableChoice, TableSize, TimeUnit,
+    TranscriptFault, audit_run, node_run, scenario_run, threads_run,
 };
 pub use hsr_options::Options;

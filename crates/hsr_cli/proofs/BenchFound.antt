@@ -1,20 +1,22 @@
 -- What a parse found, by the walk of its command.
 use Rattle.std.proofs.Common.{◌≡◌, ◌≢◌, ◌<◌, inl, inr, List, [], ◌∷◌, length, Option, Some, None, IfNone, IfSome, refl, sym, ap, subst, ◌∙◌, codes, arith, Bool, true, false}
 use Rattle.clap.specs.Words.{App, Row, Text, fault_of, first_of, is_simple, is_simple_and_free, subcommand_of}
-use Rattle.hsr_cli.specs.Options.{Chosen, ChosenIn, IsAsked, IsBench, IsForm, IsRefused, IsShowing, IsTaken, ListsModes, ListsTables, ListsUnits, Says, SaysNothing, Listed, bench_app, flag_text, mac_usage}
+use Rattle.hsr_cli.specs.Options.{Chosen, ChosenIn, IsAsked, IsBench, IsForm, IsNode, IsRefused, IsShowing, IsTable, IsTableChoice, IsTaken, Says, SaysNothing, flag_text, mac_usage}
 use Rattle.hsr_frame.specs.Words.{mode_of, mode_word}
 use Rattle.hsr_frame.specs.declared.node.Mode.{Mode}
 use Rattle.hsr_frame.specs.declared.node.Mode.TheVariants.{H, N, U}
 use Rattle.hsr_text.proofs.Units.{unit_again}
 use Rattle.hsr_text.specs.Moments.{unit_of, unit_word}
 use Rattle.hsr_text.specs.declared.time_unit.TimeUnit.{TimeUnit}
-use Rattle.hsr_table_size.proofs.Sizes.{table_again}
-use Rattle.hsr_table_size.specs.Sizes.{table_of, table_word}
+use Rattle.hsr_table_size.specs.Sizes.{table_of}
+use Rattle.hsr_options.specs.declared.chosen.NodeOptions.{NodeOptions}
 use Rattle.hsr_options.specs.declared.chosen.Showing.{Showing}
 use Rattle.hsr_options.specs.declared.chosen.Form.{Form}
 use Rattle.hsr_options.specs.declared.chosen.Form.TheVariants.{Transcript, Report}
 use Rattle.hsr_table_size.specs.declared.size.TableSize.{TableSize}
 use Rattle.hsr_options.specs.declared.chosen.Asked.{Asked}
+use Rattle.hsr_options.specs.declared.chosen.TableChoice.{TableChoice}
+use Rattle.hsr_options.specs.declared.chosen.TableChoice.TheVariants.{Given, Told}
 use Rattle.hsr_options.specs.declared.chosen.Options.{Options}
 use Rattle.hsr_options.specs.declared.chosen.Options.TheVariants.{Node, Run, Threads, Audit}
 
@@ -30,14 +32,21 @@ form_same f g (Report asked) e h = (sym (e (codes "transcript")) ∙ h.0, asked_
 showing_same : (f g : Text → Option Text) (showing : Showing) → ((id : Text) → f id ≡ g id) → IsShowing f showing → IsShowing g showing
 showing_same f g showing e h = (sym (e (codes "network")) ∙ h.0, form_same f g showing.form e h.1)
 
+table_same : (f g : Text → Option Text) (table : TableSize) → ((id : Text) → f id ≡ g id) → IsTable f table → IsTable g table
+table_same f g table e h = (h.0, sym (e (codes "table")) ∙ h.1, h.2)
+
+choice_same : (f g : Text → Option Text) (choice : TableChoice) → ((id : Text) → f id ≡ g id) → IsTableChoice f choice → IsTableChoice g choice
+choice_same f g (Given table) e h = table_same f g table e h
+choice_same f g Told e h = sym (e (codes "table")) ∙ h
+
 pub chosen_same : (name : Text) (f g : Text → Option Text) (o : Options) → ((id : Text) → f id ≡ g id) → Chosen name f o → Chosen name g o
 chosen_same name f g (Node node) e h =
-    (h.0, ((h.1.0.0, sym (e (codes "mac")) ∙ h.1.0.1, h.1.0.2), sym (e (codes "mode")) ∙ h.1.1, sym (e (codes "table")) ∙ h.1.2, sym (e (codes "unit")) ∙ h.1.3))
+    (h.0, ((h.1.0.0, sym (e (codes "mac")) ∙ h.1.0.1, h.1.0.2), sym (e (codes "mode")) ∙ h.1.1, table_same f g node.table e h.1.2, sym (e (codes "unit")) ∙ h.1.3))
 chosen_same name f g (Run table showing opens explains) e h =
-    (h.0, sym (e (codes "table")) ∙ h.1, showing_same f g showing e h.2, sym (e (codes "open")) ∙ h.3, sym (e (codes "explain")) ∙ h.4)
-chosen_same name f g (Threads table showing explains) e h = (h.0, sym (e (codes "table")) ∙ h.1, showing_same f g showing e h.2, sym (e (codes "explain")) ∙ h.3)
+    (h.0, table_same f g table e h.1, showing_same f g showing e h.2, sym (e (codes "open")) ∙ h.3, sym (e (codes "explain")) ∙ h.4)
+chosen_same name f g (Threads table showing explains) e h = (h.0, table_same f g table e h.1, showing_same f g showing e h.2, sym (e (codes "explain")) ∙ h.3)
 chosen_same name f g (Audit table scope asked explains) e h =
-    (h.0, sym (e (codes "table")) ∙ h.1, sym (e (codes "network")) ∙ h.2, asked_same f g asked e h.3, sym (e (codes "explain")) ∙ h.4)
+    (h.0, choice_same f g table e h.1, sym (e (codes "network")) ∙ h.2, asked_same f g asked e h.3, sym (e (codes "explain")) ∙ h.4)
 
 -- without a flag for the transcript nothing is to be written
 pub no_form : (found : Text → Option Text) → ((b : Bool) → found (codes "transcript") ≢ Some (flag_text b)) → (form : Form) → ¬ IsForm found form
@@ -52,21 +61,17 @@ pub chosen_to : (found : Option (Text × List Row)) (name : Text) (rows : List R
     → ChosenIn found o → Chosen name (λ id. first_of id rows) o
 chosen_to found name rows o e h = subst (λ f. ChosenIn f o) e h
 
-pub is_simple_bench : (modes tables units : Listed) → is_simple (bench_app modes tables units) ≡ true
-is_simple_bench modes tables units = refl
-
-pub says : (words : List Text) (modes tables units : Listed) (o : Options) → 0 < length words → ListsModes modes → ListsTables tables → ListsUnits units
-    → ChosenIn (subcommand_of (bench_app modes tables units) words) o → Says words o
-says [] modes tables units o h a b c d = absurd (omega arith)
-says (w ∷ ws) modes tables units o h a b c d = (modes, tables, units, a, b, c, d)
+pub says : (words : List Text) (app : App) (o : Options) → 0 < length words → IsBench app → ChosenIn (subcommand_of app words) o → Says words o
+says [] app o h is chosen = absurd (omega arith)
+says (w ∷ ws) app o h is chosen = (app, is, chosen)
 
 -- ---- what is refused
 
 pub is_simple_so : (app : App) → IsBench app → is_simple app ≡ true
-is_simple_so app is = ap is_simple is.6
+is_simple_so app is = ap is_simple is.8
 
 pub is_free : (app : App) → IsBench app → is_simple_and_free app ≡ true
-is_free app is = ap is_simple_and_free is.6
+is_free app is = ap is_simple_and_free is.8
 
 pub taken : (words : List Text) (app : App) → 0 < length words → IsBench app → fault_of app words ≡ [] → IsTaken words
 taken [] app h is none = tt
@@ -106,11 +111,53 @@ mode_found = word_found mode_word
 pub mode_unread : (r : Option Mode) (w : Text) (found : Option Text) → r ≡ mode_of w → found ≡ Some w → IfNone r ((m : Mode) → found ≢ Some (mode_word m))
 mode_unread = word_unread mode_word mode_of mode_again
 
-pub table_found : (r : Option TableSize) (w : Text) (found : Option Text) → IfSome r (λ t. w ≡ table_word t) → found ≡ Some w → IfSome r (λ t. found ≡ Some (table_word t))
-table_found = word_found table_word
+pub table_found : (r : Option TableSize) (w : Text) (found : Text → Option Text) → r ≡ table_of w → found (codes "table") ≡ Some w → IfSome r (IsTable found)
+table_found None w found e is = tt
+table_found (Some t) w found e is = (w, is, sym e)
 
-pub table_unread : (r : Option TableSize) (w : Text) (found : Option Text) → r ≡ table_of w → found ≡ Some w → IfNone r ((t : TableSize) → found ≢ Some (table_word t))
-table_unread = word_unread table_word table_of table_again
+pub table_unread : (r : Option TableSize) (w : Text) (found : Text → Option Text) → r ≡ table_of w → found (codes "table") ≡ Some w → IfNone r ((t : TableSize) → ¬ IsTable found t)
+table_unread (Some t) w found e is = tt
+table_unread None w found e is = λ t h.
+    let there : found (codes "table") ≡ Some h.0 = h.1 in
+    let same : w ≡ h.0 = cc in
+    let none = e ∙ ap table_of same ∙ h.2 in
+    cc
+
+pub table_missing : (found : Text → Option Text) → None ≡ found (codes "table") → (t : TableSize) → ¬ IsTable found t
+table_missing found e t h =
+    let none = e ∙ h.1 in
+    cc
+
+pub none_so : {X : Type 0} (o : Option X) (P : Type 0) → P → IfNone o P
+none_so None P h = h
+none_so (Some x) P h = tt
+
+-- where no size is chosen, no command that has one is
+pub no_node : (found : Text → Option Text) → ((t : TableSize) → ¬ IsTable found t) → (node : NodeOptions) → ¬ IsNode found node
+no_node found none node h = none node.table h.2
+
+pub no_run : (name : Text) (found : Text → Option Text) → name ≡ codes "run" → ((t : TableSize) → ¬ IsTable found t) → (o : Options) → ¬ Chosen name found o
+no_run name found is none (Node node) h = none node.table h.1.2
+no_run name found is none (Run table showing opens explains) h = none table h.1
+no_run name found is none (Threads table showing explains) h = none table h.1
+no_run name found is none (Audit table scope asked explains) h =
+    let one : length name ≡ 3 = ap length is in
+    let other : length name ≡ 5 = ap length h.0 in
+    absurd (omega (arith, one, other))
+
+pub no_threads : (name : Text) (found : Text → Option Text) → name ≡ codes "threads" → ((t : TableSize) → ¬ IsTable found t) → (o : Options) → ¬ Chosen name found o
+no_threads name found is none (Node node) h = none node.table h.1.2
+no_threads name found is none (Run table showing opens explains) h = none table h.1
+no_threads name found is none (Threads table showing explains) h = none table h.1
+no_threads name found is none (Audit table scope asked explains) h =
+    let one : length name ≡ 7 = ap length is in
+    let other : length name ≡ 5 = ap length h.0 in
+    absurd (omega (arith, one, other))
+
+-- what chooses no size, and isn't the word for the transcript's, chooses nothing for an audit
+pub no_choice : (found : Text → Option Text) → ((t : TableSize) → ¬ IsTable found t) → found (codes "table") ≢ Some (codes "auto") → (choice : TableChoice) → ¬ IsTableChoice found choice
+no_choice found none told (Given table) h = none table h
+no_choice found none told Told h = told h
 
 pub unit_found : (r : Option TimeUnit) (w : Text) (found : Option Text) → IfSome r (λ u. w ≡ unit_word u) → found ≡ Some w → IfSome r (λ u. found ≡ Some (unit_word u))
 unit_found = word_found unit_word

@@ -1,10 +1,9 @@
 -- What a parse found, by the walk of its command.
-use Rattle.std.proofs.Common.{◌≡◌, ◌≢◌, List, [], Option, Some, None, IfNone, IfSome, refl, sym, ap, subst, ◌∙◌, codes, true}
+use Rattle.std.proofs.Common.{◌≡◌, List, Option, Some, None, IfNone, IfSome, refl, sym, ap, subst, ◌∙◌, codes, true}
 use Rattle.clap.specs.Words.{App, Row, Text, first_of, first_value, found_of, is_simple, is_simple_and_free, matches_of, rows_of, subcommand_of, subcommand_rows_of}
 use Rattle.clap.specs.declared.parser.matches.ArgMatches.{ArgMatches}
 use Rattle.clap.proofs.WalkLemmas.{first_value-rows}
-use Rattle.hsr_table_size.proofs.Sizes.{table_again}
-use Rattle.hsr_table_size.specs.Sizes.{table_of, table_word}
+use Rattle.hsr_table_size.specs.Sizes.{table_of}
 use Rattle.hsr_table_size.specs.declared.size.TableSize.{TableSize}
 use Rattle.hsr_cli.specs.declared.task.Task.{Task}
 use Rattle.hsr_cli.specs.Choices.{Chooses, Chosen, ChosenAlone, ChosenBefore, IsPlanner, IsTable, sub_values, values}
@@ -60,15 +59,12 @@ chosen app words m task e s h =
 
 -- ---- a size of tables, by its word
 
-pub table_found : (r : Option TableSize) (w : Text) → IfSome r (λ t. w ≡ table_word t) → IfSome r (IsTable (Some w))
-table_found None w h = tt
-table_found (Some t) w h = h
+pub table_found : (r : Option TableSize) (w : Text) → r ≡ table_of w → IfSome r (IsTable (Some w))
+table_found None w e = tt
+table_found (Some t) w e = sym e
 
 pub table_unread : (r : Option TableSize) (w : Text) → r ≡ table_of w → IfNone r ((t : TableSize) → ¬ IsTable (Some w) t)
 table_unread (Some t) w e = tt
-table_unread None w e = by_size
-  where
-    by_size : (t : TableSize) → ¬ IsTable (Some w) t
-    by_size t h =
-        let none = e ∙ ap table_of h ∙ table_again t in
-        cc
+table_unread None w e = λ t h.
+    let none = e ∙ h in
+    cc

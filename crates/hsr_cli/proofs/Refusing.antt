@@ -1,5 +1,5 @@
 -- What is known of a refusal by clap's error.
-use Rattle.std.proofs.Common.{◌≡◌, ◌≢◌, ⊎_elim, string_bytes, [], subst}
+use Rattle.std.proofs.Common.{◌≢◌, ⊎_elim, string_bytes, [], subst}
 use Rattle.clap.specs.Kinds.{HasKind, IsAmong, Kinds}
 use Rattle.clap.specs.Words.{Text, kind_of}
 use Rattle.clap.specs.declared.error.Error.{Error}

@@ -5,9 +5,9 @@ use Rattle.clap.specs.Words.{App, Row, Rule, Text, new_app, new_rule, with_rule,
 use Rattle.clap.specs.declared.builder.ArgAction.TheVariants.{SetTrue}
 use Rattle.clap.specs.declared.builder.value_parser.ValueParser.TheVariants.{Names}
 use Rattle.hsr_text.specs.Words.{decimal_of}
-use Rattle.hsr_table_size.specs.Sizes.{table_word}
+use Rattle.hsr_table_size.specs.Sizes.{table_of, table_words}
 use Rattle.hsr_table_size.specs.declared.size.TableSize.{TableSize}
-use Rattle.hsr_table_size.specs.declared.size.TableSize.TheVariants.{Small, Large}
+use Rattle.hsr_table_size.specs.declared.size.TableSize.TheVariants.{Large}
 use Rattle.hsr_cli.specs.declared.plan_words.TheConstants.{TOGETHER}
 use Rattle.hsr_cli.specs.declared.task.Task.{Task}
 use Rattle.hsr_cli.specs.declared.task.Task.TheVariants.{Plan, Check, Sweep}
@@ -19,7 +19,7 @@ abbrev pub Listed : Type 0
 Listed = Bor (List (Bor (List ℕ)))
 
 abbrev pub ListsTables : Listed → Type 0
-ListsTables tables = map (λ s. s.now) tables.now ≡ table_word Small ∷ table_word Large ∷ []
+ListsTables tables = map (λ s. s.now) tables.now ≡ table_words
 
 -- `--table`, one of some names
 abbrev pub table_rule : Listed → Rule
@@ -44,10 +44,10 @@ plan_app tables = with_subcommand (with_rule (with_rule top_app (table_rule tabl
 
 -- ---- what is chosen
 
--- the size of tables that a word names, or without one the large
+-- the size of tables that a word chooses, or without one the large
 abbrev pub IsTable : Option Text → TableSize → Type 0
 IsTable None table = table ≡ Large
-IsTable (Some word) table = word ≡ table_word table
+IsTable (Some word) table = table_of word ≡ Some table
 
 -- a moment that a plan may name, in decimal
 abbrev pub IsMoment : Option Text → ℕ → Type 0

@@ -9,9 +9,9 @@ use Rattle.hsr_frame.specs.Words.{mode_word}
 use Rattle.hsr_frame.specs.declared.node.Mode.TheVariants.{H, N, U}
 use Rattle.hsr_text.specs.Moments.{unit_word}
 use Rattle.hsr_text.specs.declared.time_unit.TimeUnit.TheVariants.{Milliseconds, Microseconds}
-use Rattle.hsr_table_size.specs.Sizes.{table_word}
+use Rattle.hsr_table_size.specs.Sizes.{table_of, table_word, table_words}
 use Rattle.hsr_table_size.specs.declared.size.TableSize.{TableSize}
-use Rattle.hsr_table_size.specs.declared.size.TableSize.TheVariants.{Small, Large}
+use Rattle.hsr_table_size.specs.declared.size.TableSize.TheVariants.{Large}
 use Rattle.hsr_options.specs.declared.chosen.NodeOptions.{NodeOptions}
 use Rattle.hsr_options.specs.declared.chosen.Showing.{Showing}
 use Rattle.hsr_options.specs.declared.chosen.Form.{Form}
@@ -19,6 +19,8 @@ use Rattle.hsr_options.specs.declared.chosen.Form.TheVariants.{Transcript, Repor
 use Rattle.hsr_options.specs.declared.chosen.Scope.{Scope}
 use Rattle.hsr_options.specs.declared.chosen.Scope.TheVariants.{Ring, Network}
 use Rattle.hsr_options.specs.declared.chosen.Asked.{Asked}
+use Rattle.hsr_options.specs.declared.chosen.TableChoice.{TableChoice}
+use Rattle.hsr_options.specs.declared.chosen.TableChoice.TheVariants.{Given, Told}
 use Rattle.hsr_options.specs.declared.chosen.Options.{Options}
 use Rattle.hsr_options.specs.declared.chosen.Options.TheVariants.{Node, Run, Threads, Audit}
 
@@ -28,12 +30,15 @@ use Rattle.hsr_options.specs.declared.chosen.Options.TheVariants.{Node, Run, Thr
 abbrev pub Listed : Type 0
 Listed = Bor (List (Bor (List ℕ)))
 
--- the words of the modes, of the sizes of tables, and of the units
+-- the words of the modes, of the sizes of tables, of what an audit chooses of these, and of the units
 abbrev pub ListsModes : Listed → Type 0
 ListsModes modes = map (λ s. s.now) modes.now ≡ mode_word H ∷ mode_word N ∷ mode_word U ∷ []
 
 abbrev pub ListsTables : Listed → Type 0
-ListsTables tables = map (λ s. s.now) tables.now ≡ table_word Small ∷ table_word Large ∷ []
+ListsTables tables = map (λ s. s.now) tables.now ≡ table_words
+
+abbrev pub ListsChoices : Listed → Type 0
+ListsChoices choices = map (λ s. s.now) choices.now ≡ codes "auto" ∷ table_words
 
 abbrev pub ListsUnits : Listed → Type 0
 ListsUnits units = map (λ s. s.now) units.now ≡ unit_word Milliseconds ∷ unit_word Microseconds ∷ []
@@ -81,16 +86,16 @@ abbrev pub run_app : Listed → App
 run_app tables = with_rule (playing_app (codes "run") tables) (flag_rule (codes "open"))
 
 abbrev pub audit_app : Listed → App
-audit_app tables = with_told (with_rule (new_app (codes "audit")) (table_rule tables))
+audit_app choices = with_told (with_rule (new_app (codes "audit")) (table_rule choices))
 
 abbrev pub top_app : App
 top_app = record { top = record (new_app (codes "hsr_bench")).top { no_binary_name = true; subcommand_required = true; has_version = true }; subs = [] }
 
-abbrev pub bench_app : Listed → Listed → Listed → App
-bench_app modes tables units =
+abbrev pub bench_app : Listed → Listed → Listed → Listed → App
+bench_app modes tables choices units =
     with_subcommand (with_subcommand (with_subcommand (with_subcommand top_app (node_app modes tables units).top) (run_app tables).top)
     (playing_app (codes "threads") tables).top)
-    (audit_app tables).top
+    (audit_app choices).top
 
 -- ---- what is chosen
 
@@ -102,9 +107,14 @@ flag_text false = codes "false"
 abbrev pub IsSet : (Text → Option Text) → Text → Bool → Type 0
 IsSet found name b = found name ≡ Some (flag_text b)
 
--- the size of tables is told by its name
+-- the size of tables is the one that a word chooses
 abbrev pub IsTable : (Text → Option Text) → TableSize → Type 0
-IsTable found table = found (codes "table") ≡ Some (table_word table)
+IsTable found table = (w : Text) × (found (codes "table") ≡ Some w) × (table_of w ≡ Some table)
+
+-- an audit takes the size that a word chooses, or the one of which its transcript tells
+abbrev pub IsTableChoice : (Text → Option Text) → TableChoice → Type 0
+IsTableChoice found (Given table) = IsTable found table
+IsTableChoice found Told = found (codes "table") ≡ Some (codes "auto")
 
 -- a node's options are the values that were found: the address that a text spells, and three names
 abbrev pub IsNode : (Text → Option Text) → NodeOptions → Type 0
@@ -140,25 +150,24 @@ Chosen name found (Run table showing opens explains) =
     (name ≡ codes "run") × IsTable found table × IsShowing found showing × IsSet found (codes "open") opens × IsSet found (codes "explain") explains
 Chosen name found (Threads table showing explains) = (name ≡ codes "threads") × IsTable found table × IsShowing found showing × IsSet found (codes "explain") explains
 Chosen name found (Audit table scope asked explains) =
-    (name ≡ codes "audit") × IsTable found table × IsScope found scope × IsAsked found asked × IsSet found (codes "explain") explains
+    (name ≡ codes "audit") × IsTableChoice found table × IsScope found scope × IsAsked found asked × IsSet found (codes "explain") explains
 
 abbrev pub ChosenIn : Option (Text × List Row) → Options → Type 0
 ChosenIn None o = ⊥
 ChosenIn (Some found) o = Chosen found.0 (λ id. first_of id found.1) o
 
+-- the bench's command, with the names that it takes for modes, tables, what an audit chooses of these, and units
+abbrev pub IsBench : App → Type 0
+IsBench app = (modes : Listed) × (tables : Listed) × (choices : Listed) × (units : Listed) × ListsModes modes × ListsTables tables × ListsChoices choices
+    × ListsUnits units × (app ≡ bench_app modes tables choices units)
+
 -- arguments say these options: none say `node` with its defaults, others what the command finds in them
 abbrev pub Says : List Text → Options → Type 0
 Says [] (Node node) = (node.mac ≡ 2 ∷ 0 ∷ 0 ∷ 0 ∷ 0 ∷ 1 ∷ []) × (node.mode ≡ H) × (node.table ≡ Large) × (node.unit ≡ Milliseconds)
 Says [] o = ⊥
-Says (w ∷ ws) o = (modes : Listed) × (tables : Listed) × (units : Listed) × ListsModes modes × ListsTables tables × ListsUnits units
-    × ChosenIn (subcommand_of (bench_app modes tables units) (w ∷ ws)) o
+Says (w ∷ ws) o = (app : App) × IsBench app × ChosenIn (subcommand_of app (w ∷ ws)) o
 
 -- ---- what is refused
-
--- the bench's command, with the names that it takes for modes, tables and units
-abbrev pub IsBench : App → Type 0
-IsBench app = (modes : Listed) × (tables : Listed) × (units : Listed) × ListsModes modes × ListsTables tables × ListsUnits units
-    × (app ≡ bench_app modes tables units)
 
 -- the command finds no fault in the arguments
 abbrev pub IsTaken : List Text → Type 0

@@ -1,21 +1,21 @@
 //! Reads the arguments of hsr_bench, by clap.
-ghost use Rattle.std.specs.Prelude.{◌≡◌, ◌≢◌, ◌<◌, IfErr, IfNone, IfOk, IfSome, OnOk, Some, Ok, codes, false, length, map};
+ghost use Rattle.std.specs.Prelude.{◌≡◌, ◌≢◌, ◌<◌, ◌∷◌, IfErr, IfNone, IfOk, IfSome, OnOk, Some, Ok, codes, false, length, map};
 ghost use Rattle.std.specs.Str.{trim_end};
 ghost use Rattle.hsr_frame.specs.Address.{IsGroup, address_of};
 ghost use Rattle.hsr_frame.specs.Words.{mode_word};
 ghost use Rattle.hsr_text.specs.Moments.{unit_word};
-ghost use Rattle.hsr_table_size.specs.Sizes.{table_word};
+ghost use Rattle.hsr_table_size.specs.Sizes.{table_words};
 ghost use Rattle.clap.specs.Words.{Text, app_of, first_value, found_of, kind_of, new_app, rule_of, subcommand_rows_of, with_rule};
 ghost use Rattle.clap.specs.declared.builder.Command.TheViews.{out-Command as fields_of};
 ghost use Rattle.clap.specs.declared.error.kind.ErrorKind.TheVariants.{OutOfMemory};
 ghost use Rattle.hsr_cli.specs.Refusal.{IfUsage};
-ghost use Rattle.hsr_cli.specs.Options.{Chosen, ChosenIn, IsAsked, IsForm, IsNode, IsRefused, IsScope, IsShowing, IsTaken, Says, SaysNothing, audit_app, bench_app, flag_rule, flag_text, mac_rule, mode_rule, node_app, run_app, table_rule, playing_app, top_app, unit_rule, with_asked, with_told};
+ghost use Rattle.hsr_cli.specs.Options.{Chosen, ChosenIn, IsAsked, IsForm, IsNode, IsRefused, IsScope, IsShowing, IsTable, IsTableChoice, IsTaken, Says, SaysNothing, audit_app, bench_app, flag_rule, flag_text, mac_rule, mode_rule, node_app, run_app, table_rule, playing_app, top_app, unit_rule, with_asked, with_told};
 
 use crate::fault::{OptionFault, refused, usage};
 use clap::{Arg, ArgAction, ArgMatches, Command};
 use hsr_frame::{Mac, Mode, NoMemory};
-use hsr_options::{Asked, Form, NodeOptions, Options, Scope, Showing};
-use hsr_table_size::TableSize;
+use hsr_options::{Asked, Form, NodeOptions, Options, Scope, Showing, TableChoice};
+use hsr_table_size::{TableSize, table_words};
 use hsr_text::TimeUnit;
 use hsr_version::VERSION;
 use std::alloc::Global;
@@ -129,8 +129,8 @@ Examples: hsr_bench threads < scenario.toml
           hsr_bench threads --transcript < scenario.toml | hsr_bench audit";
 
 const AUDIT_ENDS: &str = "\
-The transcript is one that `run --transcript` wrote with a table of the same size; it may be of version 1,
-which tells moments in milliseconds. Each entry is done anew and compared, links and records are checked
+The transcript is one that `run --transcript` wrote with a table of the same size; with --table auto the size is
+the one that the transcript tells in its second line. It may be of version 1, which tells moments in milliseconds. Each entry is done anew and compared, links and records are checked
 against each other, and the report is that of `run`, with --load, --latency, --deliveries, --needed, --budget, --network
 and --explain too.
 
@@ -161,13 +161,20 @@ fn mode_arg<'a>(alloc: Global, modes: &'a [&'a str]) -> Arg<'a>
         .default_value(Mode::H.word())
 }
 
-fn table_arg<'a>(alloc: Global, tables: &'a [&'a str]) -> Arg<'a>
+/// How help tells of the sizes of tables.
+const TABLE_HELP: &str = "Entries of a duplicate table; small is 4, large is 512";
+
+/// How help tells of them where the text may tell the size itself.
+const CHOICE_HELP: &str =
+    "Entries of a duplicate table; small is 4, large is 512, auto what the transcript tells";
+
+fn table_arg<'a>(alloc: Global, help: &'a str, tables: &'a [&'a str]) -> Arg<'a>
     ensures rule { rule_of result ≡ table_rule tables.entry }
     ensures own { result.global ≡ false }
 {
     Arg::new(alloc, "table")
         .long("table")
-        .help("Entries of a duplicate table: 4 (small) or 512 (large)")
+        .help(help)
         .value_parser(tables)
         .default_value(TableSize::Large.word())
 }
@@ -264,7 +271,7 @@ fn node_command<'a>(
     ensures own { IfOk result (λ c. (fields_of c).has_globals ≡ false) }
 {
     let command = node_placed(alloc, modes)?
-        .arg(table_arg(alloc, tables))?
+        .arg(table_arg(alloc, TABLE_HELP, tables))?
         .arg(unit_arg(alloc, units))?;
     Ok(command)
 }
@@ -284,7 +291,7 @@ fn playing_command<'a>(
     let command = Command::new(alloc, name)
         .about(about)
         .after_help(ends)
-        .arg(table_arg(alloc, tables))?;
+        .arg(table_arg(alloc, TABLE_HELP, tables))?;
     telling(alloc, with_flag(alloc, command, "transcript", transcript)?)
 }
 
@@ -298,14 +305,14 @@ fn run_command<'a>(alloc: Global, tables: &'a [&'a str]) -> Result<Command<'a>, 
     with_flag(alloc, command, "open", open)
 }
 
-fn audit_command<'a>(alloc: Global, tables: &'a [&'a str]) -> Result<Command<'a>, NoMemory>
-    ensures app { IfOk result (λ c. app_of c ≡ audit_app tables.entry) }
+fn audit_command<'a>(alloc: Global, choices: &'a [&'a str]) -> Result<Command<'a>, NoMemory>
+    ensures app { IfOk result (λ c. app_of c ≡ audit_app choices.entry) }
     ensures own { IfOk result (λ c. (fields_of c).has_globals ≡ false) }
 {
     let command = Command::new(alloc, "audit")
         .about("Audits the transcript on standard input, and reports whether it certifies delivery")
         .after_help(AUDIT_ENDS)
-        .arg(table_arg(alloc, tables))?;
+        .arg(table_arg(alloc, CHOICE_HELP, choices))?;
     telling(alloc, command)
 }
 
@@ -326,14 +333,16 @@ fn bench_command<'a>(
     alloc: Global,
     modes: &'a [&'a str],
     tables: &'a [&'a str],
+    choices: &'a [&'a str],
     units: &'a [&'a str],
 ) -> Result<Command<'a>, NoMemory>
-    ensures { IfOk result (λ c. app_of c ≡ bench_app modes.entry tables.entry units.entry) }
+    ensures { IfOk result (λ c. app_of c
+        ≡ bench_app modes.entry tables.entry choices.entry units.entry) }
 {
     let node = node_command(alloc, modes, tables, units)?;
     let run = run_command(alloc, tables)?;
     let threads = playing_command(alloc, "threads", THREADS_ABOUT, THREADS_ENDS, tables)?;
-    let audit = audit_command(alloc, tables)?;
+    let audit = audit_command(alloc, choices)?;
     let top = top_command(alloc)?;
     let one = top.subcommand(node)?;
     let two = one.subcommand(run)?;
@@ -342,14 +351,26 @@ fn bench_command<'a>(
     Ok(four)
 }
 
-#[tactic(auto, using(crate::proofs::BenchFound::table_found, crate::proofs::BenchFound::table_unread))]
+#[tactic(auto, using(crate::proofs::BenchFound::table_found, crate::proofs::BenchFound::table_unread, crate::proofs::BenchFound::table_missing))]
 fn table_of(matches: &ArgMatches<'_>) -> Option<TableSize>
-    ensures found { IfSome result (λ t. first_value (found_of matches.now) (codes "table")
-        ≡ Some (table_word t)) }
-    ensures none { IfNone result ((t : _) → first_value (found_of matches.now) (codes "table")
-        ≢ Some (table_word t)) }
+    ensures found { IfSome result (IsTable (first_value (found_of matches.now))) }
+    ensures none { IfNone result ((table : _)
+        → ¬ IsTable (first_value (found_of matches.now)) table) }
 {
     TableSize::from_word(matches.get_str("table")?.as_bytes())
+}
+
+/// Which size of tables an audit takes.
+#[tactic(auto, using(crate::proofs::BenchFound::no_choice))]
+fn choice_of(matches: &ArgMatches<'_>) -> Option<TableChoice>
+    ensures found { IfSome result (IsTableChoice (first_value (found_of matches.now))) }
+    ensures none { IfNone result ((choice : TableChoice)
+        → ¬ IsTableChoice (first_value (found_of matches.now)) choice) }
+{
+    match matches.get_str("table") {
+        Some("auto") => Some(TableChoice::Told),
+        _ => Some(TableChoice::Given(table_of(matches)?)),
+    }
 }
 
 #[tactic(auto, using(crate::proofs::BenchFound::mode_found, crate::proofs::BenchFound::mode_unread))]
@@ -479,6 +500,7 @@ fn node_options(matches: &ArgMatches<'_>) -> Option<NodeOptions>
 }
 
 /// The options of a subcommand.
+#[tactic(auto, using(crate::proofs::BenchFound::no_run, crate::proofs::BenchFound::no_threads))]
 fn options_of(name: &str, matches: &ArgMatches<'_>) -> Option<Options>
     ensures found { IfSome result (Chosen name.now (first_value (found_of matches.now))) }
     ensures none { IfNone result ((o : Options)
@@ -509,7 +531,7 @@ fn options_of(name: &str, matches: &ArgMatches<'_>) -> Option<Options>
             })
         }
         "audit" => {
-            let table = table_of(matches)?;
+            let table = choice_of(matches)?;
             let scope = scope_of(matches)?;
             let asked = asked_of(matches)?;
             let explains = flag_of(matches, "explain")?;
@@ -522,6 +544,13 @@ fn options_of(name: &str, matches: &ArgMatches<'_>) -> Option<Options>
         }
         _ => None,
     }
+}
+
+/// The words that choose a size of tables for an audit.
+fn choices() -> [&'static str; 18]
+    ensures { map (λ s. s.now) result ≡ codes "auto" ∷ table_words }
+{
+    table_words!("auto")
 }
 
 /// What a parse found.
@@ -553,9 +582,16 @@ pub fn options<'a>(alloc: Global, words: &'a [&'a str]) -> Result<Options, Optio
         }));
     }
     let modes = [Mode::H.word(), Mode::N.word(), Mode::U.word()];
-    let tables = [TableSize::Small.word(), TableSize::Large.word()];
+    let tables = TableSize::words();
+    let choices = choices();
     let units = [TimeUnit::Milliseconds.word(), TimeUnit::Microseconds.word()];
-    let command = bench_command(alloc, modes.as_slice(), tables.as_slice(), units.as_slice())?;
+    let command = bench_command(
+        alloc,
+        modes.as_slice(),
+        tables.as_slice(),
+        choices.as_slice(),
+        units.as_slice(),
+    )?;
     match command.try_get_matches_from(words) {
         Ok(matches) => match chosen_in(&matches) {
             Some(options) => Ok(options),

@@ -20,7 +20,7 @@ use std::alloc::Global;
 
 /// Which arguments go together.
 const TOGETHER: &str = "\
-usage: hsr_plan [--table small|large]
+usage: hsr_plan [--table small|large|ENTRIES]
        hsr_plan --check
        hsr_plan sweep [--at-us N], N from 0 to 1099511627776";
 
@@ -197,7 +197,7 @@ fn chosen_in(matches: &ArgMatches<'_>) -> Option<Task>
 }
 
 /// What arguments choose: `--check` a scenario to check, `sweep` with `--at-us` a sweep, else a plan, with the tables
-/// that `--table` names (`small` or `large`, which is meant without it). Arguments that go together in none of these
+/// that `--table` names (`large` is meant without it). Arguments that go together in none of these
 /// are refused by the text that says which do, and other arguments by clap's text, which isn't empty; `Memory` if
 /// allocation fails.
 pub fn task_by<'a>(alloc: Global, words: &'a [&'a str]) -> Result<Task, OptionFault>
@@ -205,7 +205,7 @@ pub fn task_by<'a>(alloc: Global, words: &'a [&'a str]) -> Result<Task, OptionFa
     ensures refused { IfErr result (λ f. IfUsage f (IsRefused (map (λ s. s.now) words.entry.now))) }
     ensures some { IfErr result (λ f. IfUsage f (λ text. 0 < length text)) }
 {
-    let tables = [TableSize::Small.word(), TableSize::Large.word()];
+    let tables = TableSize::words();
     let command = plan_command(alloc, tables.as_slice())?;
     match command.try_get_matches_from(words) {
         Ok(matches) => match chosen_in(&matches) {

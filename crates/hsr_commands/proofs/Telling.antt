@@ -1,15 +1,23 @@
 -- How `run`, `threads` and `audit` end, by what was shown and by what was read.
-use Rattle.std.proofs.Common.{ℕ, ◌≡◌, ◌≢◌, ◌^◌, List, Option, Some, None, Err, subst, sym, IfSome}
+use Rattle.std.proofs.Common.{ℕ, ◌≡◌, ◌≢◌, ◌⊎◌, ◌^◌, inl, inr, List, ◌++◌, Option, Some, None, Result, Ok, Err, subst, sym, IfSome}
+use Rattle.std.specs.Global.{Global}
+use Rattle.std.specs.Prelude.{IfErr, IfOk, Vec}
 use Rattle.std.specs.Io.KnownBytes.{Keeps}
+use Rattle.hsr_head.proofs.Heads.{of_text}
+use Rattle.hsr_head.specs.Reads.{ReadsHead, front}
+use Rattle.hsr_head.specs.Told.{told_size}
+use Rattle.hsr_table_size.specs.Sizes.{capacity_of}
+use Rattle.hsr_table_size.specs.declared.size.TableSize.{TableSize}
 use Rattle.hsr_finished_run.specs.Finished.{Finished, IsFinished}
 use Rattle.hsr_transcript.specs.Answers.{Answers, IsTextOf}
 use Rattle.hsr_transcript.specs.declared.fault.ReadFault.{ReadFault}
 use Rattle.hsr_transcript.specs.declared.fault.ReadFault.TheVariants as read
-use Rattle.hsr_commands.specs.AuditRun.{AuditEnds, IsAudited, IsUnread, transcript_fault}
+use Rattle.hsr_commands.specs.AuditRun.{AuditEnds, IsAudited, IsUnread, entries_for, transcript_fault}
 use Rattle.hsr_text.specs.Whole.{IsWhole}
 use Rattle.hsr_report.specs.Found.{IsFound, IsReportOf}
 use Rattle.hsr_options.specs.declared.chosen.Asked.{Asked}
 use Rattle.hsr_options.specs.declared.chosen.Scope.{Scope}
+use Rattle.hsr_options.specs.declared.chosen.TableChoice.{TableChoice}
 use Rattle.hsr_commands.specs.Shown.{IsDelivered}
 use Rattle.hsr_commands.specs.Ending.{Ends}
 use Rattle.hsr_commands.specs.Reading.{Said, scenario_of}
@@ -97,15 +105,44 @@ audited_fault : (capacity : ℕ) (scope : Scope) (asked : Asked) (text : List �
     → AuditEnds capacity scope asked text held holds (Stopped fault)
 audited_fault capacity scope asked text held holds fault u k = stopped (IsAudited capacity scope asked text) (IsUnread capacity text) held holds fault (λ h. h) u k
 
-pub audited_known : (capacity : ℕ) (scope : Scope) (asked : Asked) (all held holds : Option (List ℕ)) (found : Finding) (written : List ℕ) (status : Status) → IfSome all (λ text. IsAudited capacity scope asked text found written)
-    → IsDelivered held holds found written status → IfSome all (λ text. AuditEnds capacity scope asked text held holds status)
-audited_known capacity scope asked None held holds found written status r d = tt
-audited_known capacity scope asked (Some text) held holds found written status r d = audited_report capacity scope asked text held holds found written status r d
+-- what is told with tables of the size that a head tells, is told of the text
+module _ (scope : Scope) (asked : Asked) (old new : Option (List ℕ)) (head one : List ℕ) (table : TableSize) (read : ReadsHead old new head) (same : one ≡ head) (size : table ≡ told_size (front one)) where
+  pub audited_head : (r : Result (Finding × Vec ℕ Global) Fault) → IfOk r (λ x. IfSome new (λ rest. IsAudited (capacity_of table) scope asked (one ++ rest) x.0 x.1.items))
+      → IfOk r (λ x. IfSome old (λ text. IsAudited (capacity_of (told_size (front text))) scope asked text x.0 x.1.items))
+  audited_head (Err fault) holds = tt
+  audited_head (Ok x) holds =
+      let P : List ℕ → List ℕ → Type 0 = λ f text. IsAudited (capacity_of (told_size f)) scope asked text x.0 x.1.items in
+      let Q : List ℕ → Type 0 = λ h. IfSome new (λ rest. P (front h) (h ++ rest)) in
+      let S : TableSize → Type 0 = λ t. IfSome new (λ rest. IsAudited (capacity_of t) scope asked (one ++ rest) x.0 x.1.items) in
+      of_text P old new head read (subst Q same (subst S size holds))
 
-pub unread_known : (capacity : ℕ) (scope : Scope) (asked : Asked) (all held holds : Option (List ℕ)) (fault : Fault) → IfSome all (λ text. IsUnread capacity text fault) → Keeps held holds
-    → IfSome all (λ text. AuditEnds capacity scope asked text held holds (Stopped fault))
-unread_known capacity scope asked None held holds fault u k = tt
-unread_known capacity scope asked (Some text) held holds fault u k = audited_fault capacity scope asked text held holds fault u k
+  pub unread_head : (r : Result (Finding × Vec ℕ Global) Fault) → IfErr r (λ f. IfSome new (λ rest. IsUnread (capacity_of table) (one ++ rest) f))
+      → IfErr r (λ f. IfSome old (λ text. IsUnread (capacity_of (told_size (front text))) text f))
+  unread_head (Ok x) holds = tt
+  unread_head (Err fault) holds =
+      let P : List ℕ → List ℕ → Type 0 = λ f text. IsUnread (capacity_of (told_size f)) text fault in
+      let Q : List ℕ → Type 0 = λ h. IfSome new (λ rest. P (front h) (h ++ rest)) in
+      let S : TableSize → Type 0 = λ t. IfSome new (λ rest. IsUnread (capacity_of t) (one ++ rest) fault) in
+      of_text P old new head read (subst Q same (subst S size holds))
+
+-- a head that isn't read is told of each text
+pub head_unread : (all : Option (List ℕ)) (fault : Fault) → (fault ≡ Read) ⊎ (fault ≡ Memory) → IfSome all (λ text. IsUnread (capacity_of (told_size (front text))) text fault)
+head_unread None fault why = tt
+head_unread (Some text) fault (inl is) = subst (λ (f : Fault). IsUnread (capacity_of (told_size (front text))) text f) (sym is) tt
+head_unread (Some text) fault (inr is) = subst (λ (f : Fault). IsUnread (capacity_of (told_size (front text))) text f) (sym is) tt
+
+-- what an audit of a text ends in, with as many entries as are chosen for it
+pub audited_known : (choice : TableChoice) (scope : Scope) (asked : Asked) (all held holds : Option (List ℕ)) (found : Finding) (written : List ℕ) (status : Status)
+    → IfSome all (λ text. IsAudited (entries_for choice text) scope asked text found written)
+    → IsDelivered held holds found written status → IfSome all (λ text. AuditEnds (entries_for choice text) scope asked text held holds status)
+audited_known choice scope asked None held holds found written status r d = tt
+audited_known choice scope asked (Some text) held holds found written status r d = audited_report (entries_for choice text) scope asked text held holds found written status r d
+
+pub unread_known : (choice : TableChoice) (scope : Scope) (asked : Asked) (all held holds : Option (List ℕ)) (fault : Fault)
+    → IfSome all (λ text. IsUnread (entries_for choice text) text fault) → Keeps held holds
+    → IfSome all (λ text. AuditEnds (entries_for choice text) scope asked text held holds (Stopped fault))
+unread_known choice scope asked None held holds fault u k = tt
+unread_known choice scope asked (Some text) held holds fault u k = audited_fault (entries_for choice text) scope asked text held holds fault u k
 
 pub audited_run : (capacity : ℕ) (scope : Scope) (asked : Asked) (all : Option (List ℕ)) (f : Finished) (found : Finding) (written : List ℕ) → IfSome all (λ text. IsTextOf capacity f text) → IsFinished f → IsFound scope f.run found
     → IsReportOf scope asked f.run found written → IfSome all (λ text. IsAudited capacity scope asked text found written)

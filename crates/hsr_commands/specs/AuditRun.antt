@@ -10,11 +10,21 @@ use Rattle.hsr_commands.specs.Ending.{Ends}
 use Rattle.hsr_report.specs.Found.{IsFound, IsReportOf}
 use Rattle.hsr_options.specs.declared.chosen.Asked.{Asked}
 use Rattle.hsr_options.specs.declared.chosen.Scope.{Scope}
+use Rattle.hsr_options.specs.declared.chosen.TableChoice.{TableChoice}
+use Rattle.hsr_options.specs.declared.chosen.TableChoice.TheVariants.{Given, Told}
+use Rattle.hsr_head.specs.Reads.{front}
+use Rattle.hsr_head.specs.Told.{told_size}
+use Rattle.hsr_table_size.specs.Sizes.{capacity_of}
 use Rattle.hsr_report.specs.declared.finding.Finding.{Finding}
 use Rattle.hsr_commands.specs.declared.fault.Fault.{Fault}
 use Rattle.hsr_commands.specs.declared.fault.Fault.TheVariants.{Transcript, Check, Read, Memory}
 use Rattle.hsr_commands.specs.declared.fault.Status.{Status}
 use Rattle.hsr_commands.specs.declared.fault.TranscriptFault.TheVariants.{Version, Line, End}
+
+-- how many entries tables have for a text: as many as are given, or as it tells by its front
+abbrev pub entries_for : TableChoice → List ℕ → ℕ
+entries_for (Given table) text = capacity_of table
+entries_for Told text = capacity_of (told_size (front text))
 
 -- the text is that of a finished run, of which this was found; and this is its report
 pub record IsAudited (capacity : ℕ) (scope : Scope) (asked : Asked) (text : List ℕ) (found : Finding) (written : List ℕ) : Type 0 where

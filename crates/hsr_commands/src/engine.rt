@@ -13,7 +13,7 @@ use arrayvec::ArrayVec;
 use hsr_danh::Danh;
 use hsr_node_text::{answer_request, put_counters, read_request};
 use hsr_options::NodeOptions;
-use hsr_table_size::TableSize;
+use hsr_table_size::at_size;
 use hsr_text::{Front, TimeUnit, WordFault, granted_reads, next_line};
 use std::alloc::Global;
 use std::io::{BufRead, BufReader, Read, Write};
@@ -187,11 +187,7 @@ pub fn node_run<R: Read, W: Write>(
     };
     // A reader that never ends is given up after 2^40 reads, as one that fails (RULES, Fault lines).
     let mut reads = granted_reads();
-    let ran = match chosen.table {
-        // The size of a table is a constant of its type, so each choice is a call of its own.
-        TableSize::Small => run::<_, W, 4>(alloc, &mut lines, writer, &mut reads, chosen),
-        TableSize::Large => run::<_, W, 512>(alloc, &mut lines, writer, &mut reads, chosen),
-    };
+    let ran = at_size!(chosen.table => run[_, W](alloc, &mut lines, writer, &mut reads, chosen));
     match ran {
         Ok(()) => Status::Certified,
         Err(fault) => Status::Fault(fault),

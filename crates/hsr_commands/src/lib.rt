@@ -28,7 +28,7 @@ pub use audit::audit_run;
 pub use engine::node_run;
 pub use fault::{Fault, Status, TranscriptFault};
 pub use hsr_explanation::{Explanation, put_explanation};
-pub use hsr_options::{Asked, Form, NodeOptions, Scope, Showing, TimeUnit};
+pub use hsr_options::{Asked, Form, NodeOptions, Scope, Showing, TableChoice, TimeUnit};
 pub use hsr_table_size::TableSize;
 pub use notes::Notes;
 pub use scenario::scenario_run;

@@ -24,7 +24,7 @@ fn words_of(fault: TranscriptFault) -> &'static str {
         TranscriptFault::Version =>
             "the first line is neither hsr-bench 2 nor hsr-bench 1: a transcript is what hsr_bench run --transcript writes; a scenario goes to run, a plan to hsr_plan",
         TranscriptFault::Line(2) =>
-            "the second line has another size of tables: give the --table with which the transcript was written",
+            "the second line has another size of tables, or one that there isn't: give the --table with which the transcript was written, or auto",
         TranscriptFault::Line(_) =>
             "the line is out of form, or isn't what the node answers: the text was changed",
         TranscriptFault::End => "the text breaks off: fetch the whole",

@@ -20,7 +20,7 @@ use hsr_options::Showing;
 use hsr_report::Finding;
 use hsr_ring::{World, play};
 use hsr_scenario::TEXT_LIMIT;
-use hsr_table_size::TableSize;
+use hsr_table_size::{TableSize, at_size};
 use hsr_topology::Topology;
 use std::alloc::Global;
 use std::io::{Read, Write};
@@ -151,11 +151,7 @@ fn reported_with(
         (scenario_of octets.now)) }
     ensures err { IfErr result (IsUnshown (capacity_of table) shows_open (scenario_of octets.now)) }
 {
-    match table {
-        // The size of a table is a constant of its type, so each choice is a call of its own.
-        TableSize::Small => reported::<4>(alloc, octets, showing, shows_open, notes),
-        TableSize::Large => reported::<512>(alloc, octets, showing, shows_open, notes),
-    }
+    at_size!(table => reported[](alloc, octets, showing, shows_open, notes))
 }
 
 /// Writes what there is of a run that can't be closed. It doesn't flush.

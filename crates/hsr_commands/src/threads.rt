@@ -17,7 +17,7 @@ use hsr_options::Showing;
 use hsr_report::Finding;
 use hsr_runner::{OpenGate, RunFault, run_threads};
 use hsr_scenario::TEXT_LIMIT;
-use hsr_table_size::TableSize;
+use hsr_table_size::{TableSize, at_size};
 use hsr_world_steps::DrainFault;
 use std::alloc::Global;
 use std::io::{Read, Write};
@@ -98,11 +98,7 @@ fn run_shown_with<H: Threads + Wait + Sync>(
         (scenario_of octets.now) r.0 r.1.items) }
     ensures err { IfErr result (λ f. IsUnrun (capacity_of table) (scenario_of octets.now) f) }
 {
-    match table {
-        // The size of a table is a constant of its type, so each choice is a call of its own.
-        TableSize::Small => run_shown::<H, 4>(rt, alloc, octets, showing, notes),
-        TableSize::Large => run_shown::<H, 512>(rt, alloc, octets, showing, notes),
-    }
+    at_size!(table => run_shown[H](rt, alloc, octets, showing, notes))
 }
 
 /// Runs the scenario that octets mean, and writes what is shown of the run.

@@ -79,6 +79,15 @@ impl Showing {
     };
 }
 
+/// Which size of tables an audit takes.
+#[derive(Clone, Copy, Debug, PartialEq, Eq)]
+pub enum TableChoice {
+    /// This one.
+    Given(TableSize),
+    /// That of which the transcript tells.
+    Told,
+}
+
 /// The node that `node` runs. No group has its address.
 #[derive(Clone, Copy, Debug, PartialEq, Eq)]
 pub struct NodeOptions {
@@ -113,7 +122,7 @@ pub enum Options {
     },
     /// Audit a transcript, and write its report, with the parts that are asked for.
     Audit {
-        table: TableSize,
+        table: TableChoice,
         scope: Scope,
         asked: Asked,
         /// Whether standard error says more of how the audit ended.

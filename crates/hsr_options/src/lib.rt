@@ -5,5 +5,5 @@
 
 mod chosen;
 
-pub use chosen::{Asked, Form, NodeOptions, Options, Scope, Showing};
+pub use chosen::{Asked, Form, NodeOptions, Options, Scope, Showing, TableChoice};
 pub use hsr_text::TimeUnit;

@@ -7,7 +7,7 @@ ghost use Rattle.hsr_plan.specs.Planning.{Answers, Does, IsDone, Plans, TellsWri
 use hsr_cli::{OptionFault, Task, task_by, turn_away};
 use hsr_plan_scenario::{Ending, check_run, plan_run};
 use hsr_plan_sweep::sweep_run;
-use hsr_table_size::TableSize;
+use hsr_table_size::{TableSize, at_size};
 use std::alloc::Global;
 use std::io::{self, Read, Write};
 
@@ -23,11 +23,7 @@ fn planned<R: Read, W: Write, E: Write>(
         Ends (capacity_of table) text (W.contents writer.old) (W.contents writer.new)
         (E.contents errors.old) (E.contents errors.new) ending)) }
 {
-    match table {
-        // The size of a table is a constant of its type, so each choice is a call of its own.
-        TableSize::Small => plan_run::<_, _, _, 4>(alloc, reader, writer, errors),
-        TableSize::Large => plan_run::<_, _, _, 512>(alloc, reader, writer, errors),
-    }
+    at_size!(table => plan_run[_, _, _](alloc, reader, writer, errors))
 }
 
 /// Does what was chosen. Only a sweep on a terminal shows how far it is.

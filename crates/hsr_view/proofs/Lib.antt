@@ -1,5 +1,4 @@
 mod Showing
-mod Heads
 pub mod Sending
 mod Unshown
 mod Texts

@@ -4,11 +4,12 @@
 use Rattle.std.specs.Prelude.{ℕ, ◌≡◌, ◌⊎◌, List, [], ◌++◌, codes, Option, Result, Ok, Err}
 use Rattle.std.specs.Io.KnownBytes.{Appends, Keeps}
 use Rattle.hsr_table_size.specs.Sizes.{capacity_of}
+use Rattle.hsr_head.specs.Told.{told_size}
 use Rattle.hsr_view.specs.Fault.{fault_line}
 use Rattle.hsr_view.specs.Given.{given_of}
-use Rattle.hsr_view.specs.Reads.{front}
+use Rattle.hsr_head.specs.Reads.{front}
 use Rattle.hsr_view.specs.Refusals.{IsUnshownOf}
-use Rattle.hsr_view.specs.Viewing.{IsShownOf, table_of}
+use Rattle.hsr_view.specs.Viewing.{IsShownOf}
 use Rattle.hsr_view.specs.declared.views.What.{What}
 use Rattle.hsr_view.specs.declared.fault.Fault.{Fault}
 use Rattle.hsr_view.specs.declared.fault.Fault.TheVariants.{Write}
@@ -34,10 +35,10 @@ IsDelivered held holds octets (Err fault) = fault ≡ Write
 -- What is asked for of a text, with tables of the size that it tells, was written; or nothing was, for this reason; or the writer
 -- failed at it.
 abbrev pub Ends : List ℕ → What → Option (List ℕ) → Option (List ℕ) → Option (List ℕ) → Result (Unit {0}) Fault → Type 0
-Ends text what scenario held holds (Ok done) = (octets : List ℕ) × IsShownOf (capacity_of (table_of (front text))) text what scenario octets × Appends held holds octets
+Ends text what scenario held holds (Ok done) = (octets : List ℕ) × IsShownOf (capacity_of (told_size (front text))) text what scenario octets × Appends held holds octets
 Ends text what scenario held holds (Err fault) =
-    (IsUnshownOf (capacity_of (table_of (front text))) (given_of (front text)) text what scenario fault × Keeps held holds)
-    ⊎ ((fault ≡ Write) × ((octets : List ℕ) × IsShownOf (capacity_of (table_of (front text))) text what scenario octets))
+    (IsUnshownOf (capacity_of (told_size (front text))) (given_of (front text)) text what scenario fault × Keeps held holds)
+    ⊎ ((fault ≡ Write) × ((octets : List ℕ) × IsShownOf (capacity_of (told_size (front text))) text what scenario octets))
 
 pub record Views (text : List ℕ) (what : What) (scenario : Option (List ℕ)) (held holds told tells : Option (List ℕ)) (code : ℕ) : Type 0 where
   pub ended : Result (Unit {0}) Fault

@@ -4,5 +4,4 @@ pub mod Unnamed
 pub mod Fault
 pub mod Viewing
 pub mod Refusals
-pub mod Reads
 pub mod Ends

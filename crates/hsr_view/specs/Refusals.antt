@@ -135,3 +135,7 @@ IsUnshowable capacity text what scenario fault = (f : Finished) × IsTextOf capa
 abbrev pub IsUnshownOf : ℕ → Option Given → List ℕ → What → Option (List ℕ) → Fault → Type 0
 IsUnshownOf capacity given text what scenario fault =
     ((fault ≡ Read) ⊎ (fault ≡ Memory)) ⊎ (IsUnread capacity given text fault ⊎ IsUnshowable capacity text what scenario fault)
+
+-- the same, as one fact about tables with so many entries
+pub record IsUnshownWith (capacity : ℕ) (given : Option Given) (text : List ℕ) (what : What) (scenario : Option (List ℕ)) (fault : Fault) : Type 0 where
+  pub why : IsUnshownOf capacity given text what scenario fault

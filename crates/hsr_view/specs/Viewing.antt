@@ -4,11 +4,8 @@
 --     IsSend        the send that words mean
 --     AreSends      the sends that words mean
 --     IsPictured    the drawing of a picture of what is wanted
---     table_of      the size of the tables, by a text's front
 --     IsShownOf     what is shown of the text of a run
-use Rattle.std.specs.Prelude.{ℕ, ◌≡◌, ◌<◌, ◌==◌, ◌&&◌, ◌||◌, Bool, false, List, map, filter, length, Ok, [], Option, Some, None, is_some, option_map, codes, if◌then◌else◌}
-use Rattle.hsr_table_size.specs.declared.size.TableSize.{TableSize}
-use Rattle.hsr_table_size.specs.declared.size.TableSize.TheVariants.{Small, Large}
+use Rattle.std.specs.Prelude.{ℕ, ◌≡◌, ◌<◌, ◌==◌, ◌&&◌, ◌||◌, Bool, false, List, map, filter, length, Ok, [], Option, Some, None, is_some, option_map}
 use Rattle.hsr_node.specs.declared.event.Probe.{Probe}
 use Rattle.hsr_topology.specs.Topology.{Topology}
 use Rattle.hsr_finished_run.specs.Finished.{Finished}
@@ -29,7 +26,6 @@ use Rattle.hsr_run_laws.specs.Run.{Run}
 use Rattle.hsr_transcript.specs.Answers.{IsTextOf}
 use Rattle.std.specs.Borrow.{Bor}
 use Rattle.hsr_view.specs.Agreeing.{AreSteps}
-use Rattle.hsr_view.specs.Given.{begins}
 use Rattle.hsr_view.specs.declared.views.What.{What}
 use Rattle.hsr_view.specs.declared.views.What.TheVariants as asked
 use Rattle.hsr_diagram.specs.Pictures.{IsPicture, Picture}
@@ -112,12 +108,6 @@ pub record IsShown (f : Finished) (what : What) (scenario : Option (List ℕ)) (
   pub shows : Shows names f scenario what octets
 
 -- ---- texts
-
--- The size of the tables of which a text tells in its second line, by its front: 4 entries behind a first line as of a transcript and the
--- line `table 4`, or else 512.
-abbrev pub table_of : List ℕ → TableSize
-table_of front =
-    if begins front (codes "hsr-bench 2\ntable 4\n") || begins front (codes "hsr-bench 1\ntable 4\n") then Small else Large
 
 -- a text of a finished run, and what is shown of it
 pub record IsShownOf (capacity : ℕ) (text : List ℕ) (what : What) (scenario : Option (List ℕ)) (octets : List ℕ) : Type 0 where

@@ -11,7 +11,7 @@ use hsr_version::VERSION;
 use std::alloc::Global;
 
 const CAPTURE_ENDS: &str = "\
-The transcript is one that `hsr_bench run --transcript` or `threads --transcript` wrote, with either size of
+The transcript is one that `hsr_bench run --transcript` or `threads --transcript` wrote, with any size of
 tables. The capture is pcapng: one interface for each direction of each link (n0.B>n1.A: from port B of node 0 to
 port A of node 1), and one packet for each copy that was put there, with its octets and a comment: what became of
 it, and of which send it is. Packets stand in the order of time, and their time stamps count microseconds from

@@ -7,7 +7,6 @@
 //! - `given`: what a text is that is no transcript
 //! - `unnamed`: what a text is that is no scenario of the run
 //! - `fault`: why nothing is shown, and the line that says it
-//! - `head`: the head of a text, read before the rest is
 //! - `viewing`: what is shown of a text
 //! - `running`: the whole, its calls
 //! - `asked`: what the arguments ask for
@@ -22,7 +21,6 @@ mod asked;
 mod command_line;
 mod fault;
 mod given;
-mod head;
 mod running;
 mod unnamed;
 mod viewing;

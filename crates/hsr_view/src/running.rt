@@ -3,16 +3,29 @@ ghost use Rattle.std.specs.Prelude.{◌≡◌, ◌⊎◌, IfErr, IfOk, IfSome, o
 ghost use Rattle.hsr_table_size.specs.Sizes.{capacity_of};
 ghost use Rattle.hsr_view.specs.Ends.{Ends, IsDelivered, Tells, Views, code_of};
 ghost use Rattle.hsr_view.specs.Given.{given_of};
-ghost use Rattle.hsr_view.specs.Reads.{front};
+ghost use Rattle.hsr_head.specs.Reads.{front};
+ghost use Rattle.hsr_head.specs.Told.{told_size};
+ghost use Rattle.hsr_view.specs.declared.fault.Fault.TheVariants.{Memory, Read as ReadFailed};
 ghost use Rattle.hsr_view.specs.Refusals.{IsUnshownOf};
-ghost use Rattle.hsr_view.specs.Viewing.{IsShownOf, table_of};
+ghost use Rattle.hsr_view.specs.Viewing.{IsShownOf};
 
 use crate::fault::Fault;
-use crate::head::read_head;
 use crate::viewing::shown;
 use crate::views::What;
+use hsr_head::read_head;
+use hsr_text::InputFault;
 use std::alloc::Global;
 use std::io::{self, Read, Write};
+
+/// Why a head isn't read.
+fn fault_of_head(fault: InputFault) -> Fault
+    ensures { (result ≡ ReadFailed) ⊎ (result ≡ Memory) }
+{
+    match fault {
+        InputFault::Read => Fault::Read,
+        InputFault::Memory => Fault::Memory,
+    }
+}
 
 /// What is asked for of the text that a reader gives: its head is read first, and of the rest no more than it takes to
 /// tell a fault.
@@ -23,15 +36,15 @@ fn shown_from<R: Read>(
     reader: &mut R,
 ) -> Result<Vec<u8>, Fault>
     ensures shown { IfOk result (λ octets. IfSome (R.remaining reader.old) (λ text.
-        IsShownOf (capacity_of (table_of (front text))) text what.now
+        IsShownOf (capacity_of (told_size (front text))) text what.now
         (option_map (λ s. s.now) scenario.entry) octets.items)) }
     ensures unshown { IfErr result (λ fault. IfSome (R.remaining reader.old) (λ text.
-        IsUnshownOf (capacity_of (table_of (front text))) (given_of (front text)) text what.now
+        IsUnshownOf (capacity_of (told_size (front text))) (given_of (front text)) text what.now
         (option_map (λ s. s.now) scenario.entry) fault)) }
 {
     match read_head(alloc, reader) {
         Ok(head) => shown(alloc, head.as_slice(), reader, what, scenario),
-        Err(fault) => Err(fault),
+        Err(fault) => Err(fault_of_head(fault)),
     }
 }
 

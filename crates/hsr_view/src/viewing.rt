@@ -6,15 +6,15 @@ ghost use Rattle.hsr_table_size.specs.Sizes.{capacity_of};
 ghost use Rattle.hsr_transcript.specs.Answers.{Answers, IsTextOf};
 ghost use Rattle.hsr_view.specs.Fault.{nothing_fault, fault_of_read};
 ghost use Rattle.hsr_view.specs.Given.{given_of};
-ghost use Rattle.hsr_view.specs.Reads.{front};
-ghost use Rattle.hsr_view.specs.Refusals.{HasStray, IsBlank, IsMisnamed, IsStray, IsUncaptured, IsUndrawn, IsUnshown, IsUnshownOf, TellsNothing};
-ghost use Rattle.hsr_view.specs.Viewing.{AreNames, AreSends, IsCaptureOf, IsPictured, IsSend, IsShown, IsShownOf, leaves_none, probe_of, table_of};
+ghost use Rattle.hsr_head.specs.Reads.{front};
+ghost use Rattle.hsr_head.specs.Told.{told_size};
+ghost use Rattle.hsr_view.specs.Refusals.{HasStray, IsBlank, IsMisnamed, IsStray, IsUncaptured, IsUndrawn, IsUnshown, IsUnshownOf, IsUnshownWith, TellsNothing};
+ghost use Rattle.hsr_view.specs.Viewing.{AreNames, AreSends, IsCaptureOf, IsPictured, IsSend, IsShown, IsShownOf, leaves_none, probe_of};
 ghost use Rattle.hsr_view.specs.declared.fault.Fault.TheVariants.{Memory, Send};
 
 use crate::agreeing::{is_memory, steps_of};
 use crate::fault::{Extent, Fault, Moments, fault_of_read};
-use crate::given::{begins, given_of};
-use crate::head::front;
+use crate::given::given_of;
 use crate::unnamed::{other, unread};
 use crate::views::What;
 use hsr_capture::capture;
@@ -24,9 +24,10 @@ use hsr_diagram_layout::drawing;
 use hsr_downs::{downs, switches};
 use hsr_finished_run::Closed;
 use hsr_frame::NoMemory;
+use hsr_head::{front, told_size};
 use hsr_node::Probe;
 use hsr_scenario::read_names;
-use hsr_table_size::TableSize;
+use hsr_table_size::{TableSize, at_size};
 use hsr_timeline::{Choice, Shown, StoryFault, check_choice, chosen, node_called, story};
 use hsr_topology::{Topology, is_same_topology};
 use hsr_transcript::{ReadFault, read};
@@ -270,7 +271,7 @@ fn shown_of<const C: usize>(
 }
 
 /// What is asked for of the text of a run with tables of `C` entries, by its head and what follows.
-fn shown_with<const C: usize, R: Read>(
+fn shown_with<R: Read, const C: usize>(
     alloc: Global,
     head: &[u8],
     reader: &mut R,
@@ -282,7 +283,7 @@ fn shown_with<const C: usize, R: Read>(
         IsShownOf C (head.now ++ rest) what.now
         (option_map (λ s. s.now) scenario.entry) octets.items)) }
     ensures unshown { IfErr result (λ fault. IfSome (R.remaining reader.old) (λ rest.
-        IsUnshownOf C (given_of (front head.now)) (head.now ++ rest) what.now
+        IsUnshownWith C (given_of (front head.now)) (head.now ++ rest) what.now
         (option_map (λ s. s.now) scenario.entry) fault)) }
 {
     match read_run::<C, R>(alloc, head, reader) {
@@ -291,17 +292,23 @@ fn shown_with<const C: usize, R: Read>(
     }
 }
 
-/// The size of the tables of which a text tells in its second line, by its front: of 4 entries where that is `table 4`,
-/// behind a first line as of a transcript; or else of 512.
-fn table_of(front: &[u8]) -> TableSize
-    ensures { result ≡ table_of front.now }
+/// What is asked for of the text of a run with tables of this size, by its head and what follows.
+fn shown_at<R: Read>(
+    alloc: Global,
+    head: &[u8],
+    reader: &mut R,
+    table: TableSize,
+    what: &What<'_>,
+    scenario: Option<&str>,
+) -> Result<Vec<u8>, Fault>
+    ensures shown { IfOk result (λ octets. IfSome (R.remaining reader.old) (λ rest.
+        IsShownOf (capacity_of table) (head.now ++ rest) what.now
+        (option_map (λ s. s.now) scenario.entry) octets.items)) }
+    ensures unshown { IfErr result (λ fault. IfSome (R.remaining reader.old) (λ rest.
+        IsUnshownWith (capacity_of table) (given_of (front head.now)) (head.now ++ rest) what.now
+        (option_map (λ s. s.now) scenario.entry) fault)) }
 {
-    if begins(front, b"hsr-bench 2\ntable 4\n") || begins(front, b"hsr-bench 1\ntable 4\n") {
-        TableSize::Small
-    } else {
-        // Any other size is refused by the reading, at its line (RULES, Transcripts).
-        TableSize::Large
-    }
+    at_size!(table => shown_with[R](alloc, head, reader, what, scenario))
 }
 
 /// What is asked for of a transcript, by its head and what follows, with tables of the size of which it tells.
@@ -313,15 +320,12 @@ pub fn shown<R: Read>(
     scenario: Option<&str>,
 ) -> Result<Vec<u8>, Fault>
     ensures shown { IfOk result (λ octets. IfSome (R.remaining reader.old) (λ rest.
-        IsShownOf (capacity_of (table_of (front head.now))) (head.now ++ rest) what.now
+        IsShownOf (capacity_of (told_size (front head.now))) (head.now ++ rest) what.now
         (option_map (λ s. s.now) scenario.entry) octets.items)) }
     ensures unshown { IfErr result (λ fault. IfSome (R.remaining reader.old) (λ rest.
-        IsUnshownOf (capacity_of (table_of (front head.now))) (given_of (front head.now)) (head.now
+        IsUnshownOf (capacity_of (told_size (front head.now))) (given_of (front head.now)) (head.now
         ++ rest) what.now (option_map (λ s. s.now) scenario.entry) fault)) }
 {
-    match table_of(front(head)) {
-        // The size of a table is a constant of its type, so each choice is a call of its own.
-        TableSize::Small => shown_with::<4, R>(alloc, head, reader, what, scenario),
-        TableSize::Large => shown_with::<512, R>(alloc, head, reader, what, scenario),
-    }
+    let table = told_size(front(head));
+    shown_at(alloc, head, reader, table, what, scenario)
 }

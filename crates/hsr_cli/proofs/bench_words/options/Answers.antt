@@ -1,21 +1,22 @@
-use Rattle.std.proofs.Common.{rules, ◌<◌, ◌∙◌, ap, map, length, subst, arith, List}
+use Rattle.std.proofs.Common.{rules, ◌<◌, map, length, subst, arith, List}
 use Rattle.std.proofs.lemmas.List.{length-map}
 use Rattle.std.proofs.lemmas.Bool.Decides.{nat_tests}
-use Rattle.clap.specs.Words.{App, Text, app_of, is_simple, subcommand_of}
+use Rattle.clap.specs.Words.{Text, app_of}
 use Rattle.hsr_cli.specs.Options.{ChosenIn, IsBench, SaysNothing}
-use Rattle.hsr_cli.proofs.BenchFound.{faulty, is_free, is_simple_bench, is_simple_so, says, silent, taken}
+use Rattle.hsr_cli.proofs.BenchFound.{faulty, is_free, is_simple_so, says, silent, taken}
 use Rattle.hsr_cli.proofs.Refusing.{fault_found, usage_weaker}
 use Rattle.hsr_cli.proofs.bench_words.options.Goals as goal
 
 pub returns-in-Some-clause-found : goal.returns-in-Some-clause-found
 returns-in-Some-clause-found c =
     let words : List Text = map (λ s. s.now) c.args.words.now in
+    let app = app_of c.in_ok-command.command in
     let some : 0 < length c.args.words.now = grind (arith, nat_tests, c.if-is_empty.false, c.is_empty.ensures) in
-    let command_is = c.in_ok-command.ensures in
-    let simple = ap is_simple command_is ∙ is_simple_bench c.as_slice.result c.as_slice-2.result c.as_slice-3.result in
-    let found = (c.in-Ok.ensures.matches simple).1 ∙ ap (λ (a : App). subcommand_of a words) command_is in
-    says words c.as_slice.result c.as_slice-2.result c.as_slice-3.result c.in-Some.options (simp length-map (omega arith)) (search rules) (search rules) (search rules)
-    (subst (λ f. ChosenIn f c.in-Some.options) found c.in-Some.ensures.found)
+    let more : 0 < length words = simp length-map (omega arith) in
+    let is : IsBench app =
+    (c.as_slice.result, c.as_slice-2.result, c.as_slice-3.result, c.as_slice-4.result, search rules, search rules, search rules, search rules, c.in_ok-command.ensures) in
+    let found = (c.in-Ok.ensures.matches (is_simple_so app is)).1 in
+    says words app c.in-Some.options more is (subst (λ f. ChosenIn f c.in-Some.options) found c.in-Some.ensures.found)
 
 pub returns-in-Some-clause-taken : goal.returns-in-Some-clause-taken
 returns-in-Some-clause-taken c =
@@ -23,7 +24,8 @@ returns-in-Some-clause-taken c =
     let app = app_of c.in_ok-command.command in
     let some : 0 < length c.args.words.now = grind (arith, nat_tests, c.if-is_empty.false, c.is_empty.ensures) in
     let more : 0 < length words = simp length-map (omega arith) in
-    let is : IsBench app = (c.as_slice.result, c.as_slice-2.result, c.as_slice-3.result, search rules, search rules, search rules, c.in_ok-command.ensures) in
+    let is : IsBench app =
+    (c.as_slice.result, c.as_slice-2.result, c.as_slice-3.result, c.as_slice-4.result, search rules, search rules, search rules, search rules, c.in_ok-command.ensures) in
     taken words app more is (c.in-Ok.ensures.kinds (is_free app is))
 
 pub returns-in-Ok-clause-refused : goal.returns-in-Ok-clause-refused
@@ -32,7 +34,8 @@ returns-in-Ok-clause-refused c =
     let app = app_of c.in_ok-command.command in
     let some : 0 < length c.args.words.now = grind (arith, nat_tests, c.if-is_empty.false, c.is_empty.ensures) in
     let more : 0 < length words = simp length-map (omega arith) in
-    let is : IsBench app = (c.as_slice.result, c.as_slice-2.result, c.as_slice-3.result, search rules, search rules, search rules, c.in_ok-command.ensures) in
+    let is : IsBench app =
+    (c.as_slice.result, c.as_slice-2.result, c.as_slice-3.result, c.as_slice-4.result, search rules, search rules, search rules, search rules, c.in_ok-command.ensures) in
     let nothing = subst SaysNothing (c.in-Ok.ensures.matches (is_simple_so app is)).1 c.in-None.ensures.none in
     usage_weaker c.usage.result _ _ (λ text said. silent words app text more is (c.in-Ok.ensures.kinds (is_free app is)) nothing said) c.usage.ensures
 
@@ -42,6 +45,7 @@ returns-clause-refused c =
     let app = app_of c.in_ok-command.command in
     let some : 0 < length c.args.words.now = grind (arith, nat_tests, c.if-is_empty.false, c.is_empty.ensures) in
     let more : 0 < length words = simp length-map (omega arith) in
-    let is : IsBench app = (c.as_slice.result, c.as_slice-2.result, c.as_slice-3.result, search rules, search rules, search rules, c.in_ok-command.ensures) in
+    let is : IsBench app =
+    (c.as_slice.result, c.as_slice-2.result, c.as_slice-3.result, c.as_slice-4.result, search rules, search rules, search rules, search rules, c.in_ok-command.ensures) in
     usage_weaker c.refused.result _ _
     (λ text room. faulty words app text more is (fault_found _ c.in-Err.error (c.in-Err.ensures.kinds (is_free app is)) room)) c.refused.ensures.kind

@@ -1,6 +1,6 @@
 use Rattle.std.proofs.Common.{rules, sym}
 use Rattle.std.proofs.lemmas.List.{length-take-le, take_all}
-use Rattle.hsr_view.proofs.head.front.Goals as goal
+use Rattle.hsr_head.proofs.head.front.Goals as goal
 
 pub slice_bounds-result-end : goal.slice_bounds-result-end
 slice_bounds-result-end c = sym (length-take-le 4096 c.args.text.now (search rules))

@@ -1,10 +1,8 @@
 //! The head of a text, read before the rest is.
-ghost use Rattle.std.specs.Prelude.{◌≡◌, ◌⊎◌, IfErr, IfOk};
-ghost use Rattle.hsr_view.specs.Reads.{ReadsHead, ReadsPiece, front};
-ghost use Rattle.hsr_view.specs.declared.fault.Fault.TheVariants.{Memory, Read as ReadFailed};
+ghost use Rattle.std.specs.Prelude.{◌≡◌, IfOk};
+ghost use Rattle.hsr_head.specs.Reads.{ReadsHead, ReadsPiece, front};
 
-use crate::fault::Fault;
-use hsr_text::READ_LIMIT;
+use hsr_text::{InputFault, READ_LIMIT};
 use std::alloc::Global;
 use std::io::{ErrorKind, Read};
 
@@ -12,7 +10,7 @@ use std::io::{ErrorKind, Read};
 const FRONT_LIMIT: usize = 4096;
 
 /// The first octets of a text, or all where it has few.
-pub(crate) fn front(text: &[u8]) -> &[u8]
+pub fn front(text: &[u8]) -> &[u8]
     ensures { result.now ≡ front text.now }
 {
     if text.len() > FRONT_LIMIT {
@@ -23,31 +21,29 @@ pub(crate) fn front(text: &[u8]) -> &[u8]
 }
 
 /// Reads a piece of a text, puts it behind what was read, and tells whether more may follow.
-fn read_piece<R: Read>(reader: &mut R, head: &mut Vec<u8>) -> Result<bool, Fault>
-    ensures ok { IfOk result (λ more. ReadsPiece (R.remaining reader.old)
+fn read_piece<R: Read>(reader: &mut R, head: &mut Vec<u8>) -> Result<bool, InputFault>
+    ensures { IfOk result (λ more. ReadsPiece (R.remaining reader.old)
         (R.remaining reader.new) head.old.items head.new.items more) }
-    ensures err { IfErr result (λ f. (f ≡ ReadFailed) ⊎ (f ≡ Memory)) }
 {
     let mut piece = [0u8; FRONT_LIMIT];
     match reader.read(&mut piece) {
         Ok(count) => {
             if head.extend_from_slice(&piece[..count]).is_err() {
-                return Err(Fault::Memory);
+                return Err(InputFault::Memory);
             }
             Ok(count > 0)
         }
         Err(e) if e.kind() == ErrorKind::Interrupted => Ok(true),
-        Err(e) if e.kind() == ErrorKind::OutOfMemory => Err(Fault::Memory),
-        Err(_) => Err(Fault::Read),
+        Err(e) if e.kind() == ErrorKind::OutOfMemory => Err(InputFault::Memory),
+        Err(_) => Err(InputFault::Read),
     }
 }
 
 /// Reads the head of a text: `FRONT_LIMIT` octets or more, or the whole text where it has fewer. `Memory` if allocation
 /// fails, `Read` where the reader fails otherwise, or takes 2^40 reads.
-pub(crate) fn read_head<R: Read>(alloc: Global, reader: &mut R) -> Result<Vec<u8>, Fault>
-    ensures head { IfOk result (λ head. ReadsHead (R.remaining reader.old)
+pub fn read_head<R: Read>(alloc: Global, reader: &mut R) -> Result<Vec<u8>, InputFault>
+    ensures { IfOk result (λ head. ReadsHead (R.remaining reader.old)
         (R.remaining reader.new) head.items) }
-    ensures refused { IfErr result (λ f. (f ≡ ReadFailed) ⊎ (f ≡ Memory)) }
 {
     let mut head = Vec::new(alloc);
     // A reader that never ends is given up (RULES, Fault lines).
@@ -57,5 +53,5 @@ pub(crate) fn read_head<R: Read>(alloc: Global, reader: &mut R) -> Result<Vec<u8
             return Ok(head);
         }
     }
-    Err(Fault::Read)
+    Err(InputFault::Read)
 }

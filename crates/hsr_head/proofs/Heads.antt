@@ -3,7 +3,7 @@ use Rattle.std.proofs.Common.{◌≡◌, ℕ, ◌≤◌, ◌⊎◌, inl, inr, Bo
 use Rattle.std.specs.Prelude.{IfSome}
 use Rattle.std.specs.Io.KnownBytes.{Consumes, IsAtEnd}
 use Rattle.std.proofs.lemmas.List.{append-nil, take-append-le}
-use Rattle.hsr_view.specs.Reads.{ReadsHead, ReadsPiece, front}
+use Rattle.hsr_head.specs.Reads.{ReadsHead, ReadsPiece, front}
 
 pub at_end : (old new : Option (List ℕ)) (head : List ℕ) → Consumes old new head → IsAtEnd new → ReadsHead old new head
 at_end None new head read end = (tt, tt)
