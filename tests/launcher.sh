@@ -8,7 +8,7 @@ set -u
 top=$(cd "$(dirname "${BASH_SOURCE[0]}")/.." && pwd)
 work=$(mktemp -d); trap 'chmod -R u+w "$work"; rm -rf "$work"' EXIT
 passed=0 failed=0
-names=(hsr_bench hsr_plan hsr_view)
+names=(hsr_bench hsr_plan hsr_view hsr_tap)
 tree=$work/tree
 
 # is WHAT WANTED GOT: one thing that was tried.
@@ -69,8 +69,8 @@ lay_tree() {
   rm -rf "$tree"
   mkdir -p "$tree/crates/low/src/deep" "$tree/crates/low/proofs" "$tree/crates/low/must-fail" "$tree/crates/low_tests/src" "$tree/release"
   cp -R "$top/bin" "$top/tools" "$top/install" "$tree"
-  for name in hsr_bench_main hsr_plan hsr_view; do mkdir -p "$tree/crates/$name/src"; echo main >"$tree/crates/$name/src/main.rt"; done
-  printf 'low:\nhsr_bench_main: low\nhsr_plan: low\nhsr_view: low\nlow_tests: low\n' >"$tree/crates.txt"
+  for name in hsr_bench_main hsr_plan hsr_view hsr_tap; do mkdir -p "$tree/crates/$name/src"; echo main >"$tree/crates/$name/src/main.rt"; done
+  printf 'low:\nhsr_bench_main: low\nhsr_plan: low\nhsr_view: low\nhsr_tap: low\nlow_tests: low\n' >"$tree/crates.txt"
   echo 'Handles allowed: none.' >"$tree/HANDLES"
   echo 1.0.0 >"$tree/VERSION"
   echo one >"$tree/crates/low/src/lib.rt"; echo two >"$tree/crates/low/src/deep/a.rt"; echo three >"$tree/crates/low/src/deep.rt"
@@ -243,7 +243,7 @@ try_release() {
   is 'its check' 'release/ is version 1.0.0, of these sources, built with kit-1 logic one = 0' \
     "$(call clean "$tree/tools/release" --check)"
   is 'its sums' 0 "$(cd "$tree/release" && sha256sum --check --quiet SHA256SUMS >/dev/null; echo $?)"
-  is 'its files' 'KIT SHA256SUMS SOURCES VERSION hsr_bench hsr_plan hsr_view ' "$(LC_ALL=C ls "$tree/release" | tr '\n' ' ')"
+  is 'its files' 'KIT SHA256SUMS SOURCES VERSION hsr_bench hsr_plan hsr_tap hsr_view ' "$(LC_ALL=C ls "$tree/release" | tr '\n' ' ')"
   is 'no kit, no release' 1 "$(clean "$tree/tools/release" >/dev/null 2>&1; echo $?)"
   is 'the same as what was built' 0 "$(with_kit "$tree/tools/release" --compare "$tree/out/built" >/dev/null; echo $?)"
   mkdir "$work/gate"; cp "$tree/out/built/"hsr_* "$work/gate"; echo >>"$work/gate/hsr_plan"; rm "$work/gate/hsr_view"

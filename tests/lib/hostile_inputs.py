@@ -1,5 +1,6 @@
 """Inputs that no friend would give. A stream is a shell's words that write it; all others are octets."""
 import random
+import struct
 
 from lib.scenarios import GROUP, ring, send
 
@@ -89,3 +90,9 @@ def many_small_streams():
 def many_streams():
     """Each but the first sends too much by itself; the first sends once."""
     return plan_of(['from = "a"\nevery_us = 1\ncount = 1\n'] + ['from = "a"\nevery_us = 1\n'] * 2000)
+
+
+def cut_packets(length, count=2**20):
+    """A capture of packets of which nothing was captured."""
+    head = struct.pack("<IHHiIII", 0xA1B2C3D4, 2, 4, 0, 0, 65535, 1)
+    return head + struct.pack("<IIII", 0, 0, 0, length) * count

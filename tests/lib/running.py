@@ -10,7 +10,7 @@ from pathlib import Path
 
 from lib.case_files import ROOT
 
-NAMES = ("hsr_bench", "hsr_plan", "hsr_view")
+NAMES = ("hsr_bench", "hsr_plan", "hsr_view", "hsr_tap")
 SECONDS = 60  # a run that takes longer has failed
 SHOWN, WIDTH, COMPARED = 12, 200, 200_000  # lines of a difference that are shown, their length, and octets that are compared by line
 

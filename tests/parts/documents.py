@@ -11,7 +11,7 @@ from lib.case_files import ROOT
 from lib.running import SECONDS, Job, Tally, difference
 from parts.launcher import try_command
 
-DOCUMENTS = ("README.md", "docs/GUIDE.md", "docs/REFERENCE.md", "tests/README.md")
+DOCUMENTS = ("README.md", "docs/GUIDE.md", "docs/REFERENCE.md", "docs/TAP.md", "tests/README.md")
 INSET, PROMPT, MORE = "    ", "    $ ", "        "
 BY_HAND = ("./install", "tshark")  # commands that change the user's home, or need what the tests don't
 

@@ -26,6 +26,7 @@ def commands(setting):
         yield "hsr_view", words, transcript
     for words in ([], ["sweep"]):
         yield "hsr_plan", words, plan
+    yield "hsr_tap", ["lines"], (ROOT / "examples" / "captures" / "tcpdump_short.pcap").read_bytes()
 
 
 def full():

@@ -195,6 +195,18 @@ def jobs_of_plans():
     ]
 
 
+def jobs_of_captures():
+    lines = ["hsr_tap", "lines"]
+    return [
+        Job(try_rows, ([("10 MB of random octets", lines, 1, "fault: capture 0 magic")], inputs.random_octets), 1),
+        Job(try_rows, ([("3 GB of zeros", lines, 1, "fault: capture 0 too-large")], same, inputs.ZEROS), 3),
+        Job(try_rows, ([("a million packets of 4 GB, all cut", lines, 0, "skipped 1048576")], inputs.cut_packets, 2**32 - 1), 3),
+        Job(try_rows, ([("a million packets of 2 KB, all cut", lines, 1, "fault: memory")], inputs.cut_packets, 2000), 6),
+        Job(try_rows, ([("a packet too many", lines, 1, "fault: capture 16777240 packets")], inputs.cut_packets, 60, 2**20 + 1), 3),
+        Job(try_rows, ([("a folder as input", lines, 1, "fault: read")], same, str(ROOT)), 1),
+    ]
+
+
 def jobs(setting):
     folder = [("a folder as input", [command], 1, "fault: read") for command in ("node", "run", "threads", "audit", "picture")]
-    return jobs_of_no_text() + jobs_of_large_texts() + jobs_of_plans() + jobs_to_show() + [Job(try_rows, (folder, same, str(ROOT)), 1)]
+    return jobs_of_no_text() + jobs_of_large_texts() + jobs_of_plans() + jobs_to_show() + jobs_of_captures() + [Job(try_rows, (folder, same, str(ROOT)), 1)]

@@ -1,0 +1,10 @@
+pub mod Numbers
+pub mod Clock
+pub mod Fields
+pub mod Options
+pub mod Blocks
+pub mod Reading
+pub mod Pcapng
+pub mod Pcap
+pub mod Capture
+pub mod Written

@@ -1,0 +1,5 @@
+pub mod Ending
+pub mod Told
+pub mod Untold
+pub mod Whole
+pub mod Wording

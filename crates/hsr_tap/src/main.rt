@@ -1,0 +1,119 @@
+//! The program `hsr_tap`: a capture of real traffic of an HSR ring as input of `hsr_bench node`, over a reader and two writers; and what
+//! its arguments ask for.
+//!
+//! Its modules, in the order in which to read them:
+//! - `fault`: why there are no lines, and the line that says it
+//! - `running`: the whole, its calls
+//! - `asked`: what the arguments ask for, read by clap
+#![tactic(auto)]
+
+ghost use Rattle.std.specs.Prelude.{◌≡◌, IfOk};
+ghost use Rattle.std.specs.Process.{exit_status};
+
+mod asked;
+mod fault;
+mod running;
+
+use crate::asked::{Asked, asked_by};
+use crate::fault::Fault;
+use crate::running::{tap_run, tell_ending};
+use hsr_cli::turn_away;
+use hsr_tap_device::DeviceFault;
+use hsr_text::arguments;
+use hsr_toml::TEXT_LIMIT;
+use std::fs::{File, Files};
+use std::io::{ErrorKind, Read, Write};
+use std::process::ExitCode;
+use std::rt::Env;
+use std::{env, io};
+
+/// The text of a file, or of a longer one a front that is longer than a document may be.
+fn text_at<H: AllocGlobal + Files>(rt: &H, path: &str) -> io::Result<Vec<u8>> {
+    let file = File::open(rt, path)?;
+    let mut text = Vec::new(rt.alloc());
+    // One octet more than a document may have is enough to refuse it.
+    file.take(TEXT_LIMIT as u64 + 1).read_to_end(&mut text)?;
+    Ok(text)
+}
+
+/// The document at a path, if there is one.
+fn document_at<H: AllocGlobal + Files>(
+    rt: &H,
+    path: Option<&str>,
+) -> Result<Option<String>, Fault> {
+    let Some(path) = path else {
+        return Ok(None);
+    };
+    match text_at(rt, path) {
+        Ok(text) => match String::from_utf8(text) {
+            Ok(text) => Ok(Some(text)),
+            Err(_) => Err(Fault::Device(DeviceFault::Text)),
+        },
+        Err(error) if error.kind() == ErrorKind::OutOfMemory => Err(Fault::Memory),
+        Err(_) => Err(Fault::NoDevice),
+    }
+}
+
+/// Writes the lines of the capture on standard input, and gives the status of the process.
+fn tap_input<H: AllocGlobal + Files + Input + Print, E: Write>(
+    rt: &H,
+    asked: Asked<'_>,
+    errors: &mut E,
+) -> io::Result<u8> {
+    let document = match document_at(rt, asked.device) {
+        Ok(document) => document,
+        Err(fault) => return tell_ending(rt.alloc(), errors, &Err(fault)),
+    };
+    let document = match &document {
+        Some(text) => Some(text.as_str()),
+        None => None,
+    };
+    let mut reader = rt.reader();
+    let mut writer = io::writer(rt);
+    tap_run(
+        rt.alloc(),
+        document,
+        asked.fcs,
+        &mut reader,
+        &mut writer,
+        errors,
+    )
+}
+
+/// The end of the process with a status.
+fn exit_of(code: io::Result<u8>) -> io::Result<ExitCode>
+    ensures { IfOk result (λ exit. IfOk code (λ status. exit_status exit ≡ status)) }
+{
+    match code {
+        Ok(code) => Ok(ExitCode::from(code)),
+        Err(error) => Err(error),
+    }
+}
+
+/// Does what the program's arguments ask for.
+fn run<H: AllocGlobal + Env + Files + Input + Print, E: Write>(
+    rt: &H,
+    errors: &mut E,
+) -> io::Result<ExitCode> {
+    let args: Vec<String> = env::args(rt)?.collect(rt.alloc())?;
+    // Refused memory is told as the standard library tells it, so that `main` finds it in one place.
+    let Ok(words) = arguments(rt.alloc(), &args) else {
+        return Err(io::Error::from(ErrorKind::OutOfMemory));
+    };
+    let code = match asked_by(rt.alloc(), words.as_slice()) {
+        Ok(asked) => tap_input(rt, asked, errors),
+        Err(fault) => turn_away(errors, &fault),
+    };
+    exit_of(code)
+}
+
+fn main(rt: HostRuntime) -> io::Result<ExitCode> {
+    let mut errors = rt.stderr();
+    match run(&rt, &mut errors) {
+        // The arguments themselves take memory.
+        Err(error) if error.kind() == ErrorKind::OutOfMemory => {
+            exit_of(tell_ending(rt.alloc(), &mut errors, &Err(Fault::Memory)))
+        }
+        ended => ended,
+    }
+}
