@@ -326,9 +326,10 @@ try_completions() {
   is 'options of another command' '--table' "$(completed hsr_bench audit --t)"
   is 'modes' 'H N U' "$(completed hsr_bench node --mode '')"
   is 'a mode behind a sign' 'U' "$(completed hsr_bench node --mode = U)"
-  is 'all behind a sign' 'small large' "$(completed hsr_bench run --table =)"
+  sizes='small large 4 8 16 32 64 128 256 512 1024 2048 4096 8192 16384 32768 65535'
+  is 'all behind a sign' "$sizes" "$(completed hsr_bench run --table =)"
   is 'units' 'us' "$(completed hsr_bench node --mac 02-00-00-00-00-01 --unit u)"
-  is 'tables of a plan' 'small large' "$(completed hsr_plan --table '')"
+  is 'tables of a plan' "$sizes" "$(completed hsr_plan --table '')"
   is 'options of a sweep' '--at-us' "$(completed hsr_plan sweep --a)"
   is 'files' "$top/crates.txt" "$(completed hsr_view capture --names "$top/crates.t")"
   is 'input' "$top/crates.txt" "$(completed hsr_bench run '<' "$top/crates.t")"

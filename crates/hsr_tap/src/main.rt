@@ -7,9 +7,6 @@
 //! - `asked`: what the arguments ask for, read by clap
 #![tactic(auto)]
 
-ghost use Rattle.std.specs.Prelude.{◌≡◌, IfOk};
-ghost use Rattle.std.specs.Process.{exit_status};
-
 mod asked;
 mod fault;
 mod running;
@@ -80,16 +77,6 @@ fn tap_input<H: AllocGlobal + Files + Input + Print, E: Write>(
     )
 }
 
-/// The end of the process with a status.
-fn exit_of(code: io::Result<u8>) -> io::Result<ExitCode>
-    ensures { IfOk result (λ exit. IfOk code (λ status. exit_status exit ≡ status)) }
-{
-    match code {
-        Ok(code) => Ok(ExitCode::from(code)),
-        Err(error) => Err(error),
-    }
-}
-
 /// Does what the program's arguments ask for.
 fn run<H: AllocGlobal + Env + Files + Input + Print, E: Write>(
     rt: &H,
@@ -101,10 +88,10 @@ fn run<H: AllocGlobal + Env + Files + Input + Print, E: Write>(
         return Err(io::Error::from(ErrorKind::OutOfMemory));
     };
     let code = match asked_by(rt.alloc(), words.as_slice()) {
-        Ok(asked) => tap_input(rt, asked, errors),
-        Err(fault) => turn_away(errors, &fault),
+        Ok(asked) => tap_input(rt, asked, errors)?,
+        Err(fault) => turn_away(errors, &fault)?,
     };
-    exit_of(code)
+    Ok(ExitCode::from(code))
 }
 
 fn main(rt: HostRuntime) -> io::Result<ExitCode> {
@@ -112,7 +99,8 @@ fn main(rt: HostRuntime) -> io::Result<ExitCode> {
     match run(&rt, &mut errors) {
         // The arguments themselves take memory.
         Err(error) if error.kind() == ErrorKind::OutOfMemory => {
-            exit_of(tell_ending(rt.alloc(), &mut errors, &Err(Fault::Memory)))
+            let code = tell_ending(rt.alloc(), &mut errors, &Err(Fault::Memory))?;
+            Ok(ExitCode::from(code))
         }
         ended => ended,
     }
