@@ -1,0 +1,3 @@
+pub mod Parted
+pub mod Opening
+pub mod Turning

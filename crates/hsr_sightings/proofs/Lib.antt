@@ -1,0 +1,4 @@
+pub mod Indexes
+pub mod Carrying
+pub mod Clashing
+pub mod Counting

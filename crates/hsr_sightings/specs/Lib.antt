@@ -1,0 +1,9 @@
+pub mod Frames
+pub mod Ring
+pub mod Copies
+pub mod Sightings
+pub mod Seen
+pub mod Keys
+pub mod Read
+pub mod Again
+pub mod Clash
