@@ -1,0 +1,5 @@
+pub mod Shapes
+pub mod Fields
+pub mod Kept
+pub mod Sending
+pub mod Cutting
