@@ -252,22 +252,40 @@ def frame(chance):
     return octets
 
 
-def node_lines(chance, unit):
+def plain_frame(chance):
+    """Octets that are mostly a plain frame, as they come by an interlink."""
+    octets = frame(chance)
+    made = model.read(octets)
+    return octets if isinstance(made, int) or chance.random() < 0.1 else made.plain()
+
+
+def node_line(chance, role, at):
+    """A line of `node`, which for a QuadBox is now and then none of its kind."""
+    kind = chance.random()
+    if kind < 0.2 and (role != "quadbox" or chance.random() < 0.01):
+        payload = chance.randbytes(chance.choice([0, 1, 46])) if chance.random() < 0.95 else bytes(chance.choice([1500, 1501]))
+        to, type4 = chance.choice([mac(2), mac(1), GROUP]), chance.choice([0x0800, 0x0800, 0x88FB, model.VLAN, model.HSR])
+        return f"send {at} {to} {type4:04X} {model.hexadecimal(payload)}" + chance.choice(["", "", " 0005"])
+    if kind < 0.25 and role != "quadbox":
+        about = chance.choice(["", " " + mac(chance.choice([1, 2, 2, 3, 7]))]) if role == "redbox" or chance.random() < 0.01 else ""
+        return f"life {at}{about}"
+    if kind < 0.3:
+        return f"age {at}"
+    port = chance.choice(model.PORTS[role])
+    return f"arrive {at} {port} {model.hexadecimal(plain_frame(chance) if port == 'I' else frame(chance))}"
+
+
+def node_lines(chance, role, unit):
     at, lines = 0, []
     for _ in range(chance.randint(1, 60)):
         later = chance.choice([0, 0, 1, 10, 100, 399, 400, -30])
+        # Stations are forgotten after a minute.
+        if role == "redbox" and chance.random() < 0.03:
+            later = chance.choice([59900, 59999, 60000])
         if unit == "us":
             later = later * 1000 + chance.choice([0, 0, -1, 1])
         at = max(0, at + later)
-        kind = chance.random()
-        if kind < 0.2:
-            payload = chance.randbytes(chance.choice([0, 1, 46])) if chance.random() < 0.95 else bytes(chance.choice([1500, 1501]))
-            to, type4 = chance.choice([mac(2), mac(1), GROUP]), chance.choice([0x0800, 0x0800, 0x88FB, model.VLAN, model.HSR])
-            lines.append(f"send {at} {to} {type4:04X} {model.hexadecimal(payload)}" + chance.choice(["", "", " 0005"]))
-        elif kind < 0.3:
-            lines.append(chance.choice([f"life {at}", f"age {at}"]))
-        else:
-            lines.append(f"arrive {at} {chance.choice('AB')} {model.hexadecimal(frame(chance))}")
+        lines.append(node_line(chance, role, at))
     return lines
 
 
@@ -360,11 +378,13 @@ def far_edges():
 def compare_node(seed):
     chance = random.Random(seed)
     mode, (word, capacity), unit = chance.choice("HNU"), size(chance), chance.choice(["ms", "us"])
-    lines = node_lines(chance, unit)
+    role = chance.choice(["danh", "redbox", "redbox", "quadbox"])
+    lines = node_lines(chance, role, unit)
     words = ["node", "--mode", mode, "--table", word]
     words += ["--unit", unit] if unit == "us" else []
-    expect(f"seed {seed}", words, model.text(lines), (0, model.node_run(lines, mode, capacity, unit), ""))
-    return "node"
+    words += ["--role", role] if role != "danh" or chance.random() < 0.5 else []
+    expect(f"seed {seed}", words, model.text(lines), model.node_run(lines, role, mode, capacity, unit))
+    return "node " + role
 
 
 def use(program):

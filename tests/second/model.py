@@ -819,34 +819,62 @@ def run(scenario, capacity, limit):
 # ---- the command `node`
 
 
+REASONS = ["self-addressed", "reserved-type", "spent", "too-long", "not-proxied"]
+
+
+def octets_of(digits):
+    return b"" if digits == "-" else bytes.fromhex(digits)
+
+
 def answered(node, line, unit):
-    """The lines that answer a line of `node`."""
+    """The lines that answer a line of `node`; refused as a wrong event where the line isn't one of this kind of node."""
     words = line.split(" ")
-    at = int(words[1]) * MICROSECONDS[unit] if len(words) > 1 else 0
+    at = int(words[1]) * MICROSECONDS[unit]
     try:
-        if words[0] == "send":
-            payload = b"" if words[4] == "-" else bytes.fromhex(words[4])
-            answer = node.send(at, 0, address(words[2]), int(words[5], 16) if len(words) > 5 else None, int(words[3], 16), payload)
-        elif words[0] == "life":
-            answer = node.life(at, None)
-        elif words[0] == "age":
+        if words[0] == "age":
             return [node.age(at).outcome]
+        if words[0] == "arrive":
+            return judgement(node, at, words[2], octets_of(words[3]))
+        if words[0] == "send":
+            vlan = int(words[5], 16) if len(words) > 5 else None
+            answer = node.send(at, 0, address(words[2]), vlan, int(words[3], 16), octets_of(words[4]))
         else:
-            return judgement(node, at, words[2], b"" if words[3] == "-" else bytes.fromhex(words[3]))
+            answer = node.life(at, address(words[2]) if len(words) > 2 else None)
     except Refused as refused:
-        return [f"refused {['self-addressed', 'reserved-type', 'spent', 'too-long'].index(str(refused)) + 1}"]
-    return [answer.outcome.removesuffix(" A B")] + [f"{port} {hexadecimal(octets)}" for port, octets in answer.copies.items()]
+        if str(refused) == "wrong-event":
+            raise
+        return [f"refused {REASONS.index(str(refused)) + 1}"]
+    outcome = answer.outcome.split(" ")
+    return [" ".join(outcome[: -len(answer.copies)])] + left_by(answer.copies)
+
+
+def left_by(copies):
+    return [f"{port} {hexadecimal(octets)}" for port, octets in copies.items()]
 
 
 def judgement(node, at, port, octets):
-    cause, _, *outs = node.judge(at, port, octets, object()).outcome.split(" ")[1:]
-    up = ["up " + hexadecimal(read(octets).plain())] if "up" in outs else []
-    return [" ".join([cause.replace("-", " "), *outs])] + up
+    if port not in PORTS[node.role]:
+        raise Refused("wrong-event")
+    answer = node.judge(at, port, octets, object())
+    cause, _, *outs = answer.outcome.split(" ")[1:]
+    lines = [" ".join([cause.replace("-", " "), *outs])]
+    if "up" in outs:
+        lines.append("up " + hexadecimal(read(octets).plain()))
+    # What a DANH passes on leaves as it came, and isn't told again.
+    return lines if node.role == "danh" else lines + left_by(answer.copies)
 
 
-def node_run(lines, mode, capacity, unit="ms"):
-    node = Node(0, {"role": "danh", "mac": "02-00-00-00-00-01", "mode": mode}, capacity)
-    return text([line for asked in lines for line in answered(node, asked, unit)] + [node.counters()])
+def node_run(lines, role, mode, capacity, unit="ms"):
+    """The status, what is printed, and what goes to standard error."""
+    node, printed = Node(0, {"role": role, "mac": "02-00-00-00-00-01", "mode": mode}, capacity), []
+    if role == "quadbox":
+        node.mac = None
+    for number, line in enumerate(lines, 1):
+        try:
+            printed += answered(node, line, unit)
+        except Refused:
+            return 1, text(printed), f"fault: line {number}\n"
+    return 0, text(printed + [node.counters()]), ""
 
 
 def told_size(transcript):

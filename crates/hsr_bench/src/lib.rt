@@ -17,4 +17,4 @@ pub use hsr_commands::{
     Asked, Fault, Form, NodeOptions, Scope, Showing, Status, TableChoice, TableSize, TimeUnit,
     TranscriptFault, audit_run, node_run, scenario_run, threads_run,
 };
-pub use hsr_options::Options;
+pub use hsr_options::{NodeRole, Options};

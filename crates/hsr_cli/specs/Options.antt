@@ -12,7 +12,9 @@ use Rattle.hsr_text.specs.declared.time_unit.TimeUnit.TheVariants.{Milliseconds,
 use Rattle.hsr_table_size.specs.Sizes.{table_of, table_word, table_words}
 use Rattle.hsr_table_size.specs.declared.size.TableSize.{TableSize}
 use Rattle.hsr_table_size.specs.declared.size.TableSize.TheVariants.{Large}
+use Rattle.hsr_options.specs.Roles.{node_role_word}
 use Rattle.hsr_options.specs.declared.chosen.NodeOptions.{NodeOptions}
+use Rattle.hsr_options.specs.declared.role.NodeRole.TheVariants.{Danh, RedBox, QuadBox}
 use Rattle.hsr_options.specs.declared.chosen.Showing.{Showing}
 use Rattle.hsr_options.specs.declared.chosen.Form.{Form}
 use Rattle.hsr_options.specs.declared.chosen.Form.TheVariants.{Transcript, Report}
@@ -30,7 +32,10 @@ use Rattle.hsr_options.specs.declared.chosen.Options.TheVariants.{Node, Run, Thr
 abbrev pub Listed : Type 0
 Listed = Bor (List (Bor (List ℕ)))
 
--- the words of the modes, of the sizes of tables, of what an audit chooses of these, and of the units
+-- the words of the kinds of node, of the modes, of the sizes of tables, of what an audit chooses of these, and of the units
+abbrev pub ListsRoles : Listed → Type 0
+ListsRoles roles = map (λ s. s.now) roles.now ≡ node_role_word Danh ∷ node_role_word RedBox ∷ node_role_word QuadBox ∷ []
+
 abbrev pub ListsModes : Listed → Type 0
 ListsModes modes = map (λ s. s.now) modes.now ≡ mode_word H ∷ mode_word N ∷ mode_word U ∷ []
 
@@ -42,6 +47,10 @@ ListsChoices choices = map (λ s. s.now) choices.now ≡ codes "auto" ∷ table_
 
 abbrev pub ListsUnits : Listed → Type 0
 ListsUnits units = map (λ s. s.now) units.now ≡ unit_word Milliseconds ∷ unit_word Microseconds ∷ []
+
+-- `--role`, one of some names, with its default
+abbrev pub role_rule : Listed → Rule
+role_rule roles = record (new_rule (codes "role")) { long = Some (codes "role"); defaults = node_role_word Danh ∷ []; parser = Some (Names roles) }
 
 -- `--mac`, with its default
 abbrev pub mac_rule : Rule
@@ -73,9 +82,9 @@ with_asked app =
 abbrev pub with_told : App → App
 with_told app = with_rule (with_rule (with_asked app) (flag_rule (codes "network"))) (flag_rule (codes "explain"))
 
-abbrev pub node_app : Listed → Listed → Listed → App
-node_app modes tables units =
-    with_rule (with_rule (with_rule (with_rule (new_app (codes "node")) mac_rule) (mode_rule modes)) (table_rule tables)) (unit_rule units)
+abbrev pub node_app : Listed → Listed → Listed → Listed → App
+node_app roles modes tables units =
+    with_rule (with_rule (with_rule (with_rule (with_rule (new_app (codes "node")) (role_rule roles)) mac_rule) (mode_rule modes)) (table_rule tables)) (unit_rule units)
 
 -- a command that plays a scenario
 abbrev pub playing_app : Text → Listed → App
@@ -91,9 +100,9 @@ audit_app choices = with_told (with_rule (new_app (codes "audit")) (table_rule c
 abbrev pub top_app : App
 top_app = record { top = record (new_app (codes "hsr_bench")).top { no_binary_name = true; subcommand_required = true; has_version = true }; subs = [] }
 
-abbrev pub bench_app : Listed → Listed → Listed → Listed → App
-bench_app modes tables choices units =
-    with_subcommand (with_subcommand (with_subcommand (with_subcommand top_app (node_app modes tables units).top) (run_app tables).top)
+abbrev pub bench_app : Listed → Listed → Listed → Listed → Listed → App
+bench_app roles modes tables choices units =
+    with_subcommand (with_subcommand (with_subcommand (with_subcommand top_app (node_app roles modes tables units).top) (run_app tables).top)
     (playing_app (codes "threads") tables).top)
     (audit_app choices).top
 
@@ -116,9 +125,10 @@ abbrev pub IsTableChoice : (Text → Option Text) → TableChoice → Type 0
 IsTableChoice found (Given table) = IsTable found table
 IsTableChoice found Told = found (codes "table") ≡ Some (codes "auto")
 
--- a node's options are the values that were found: the address that a text spells, and three names
+-- a node's options are the values that were found: the address that a text spells, and four names
 abbrev pub IsNode : (Text → Option Text) → NodeOptions → Type 0
-IsNode found node = ((t : Text) × (found (codes "mac") ≡ Some t) × (address_of t ≡ Ok node.mac))
+IsNode found node = (found (codes "role") ≡ Some (node_role_word node.role))
+    × ((t : Text) × (found (codes "mac") ≡ Some t) × (address_of t ≡ Ok node.mac))
     × (found (codes "mode") ≡ Some (mode_word node.mode)) × IsTable found node.table
     × (found (codes "unit") ≡ Some (unit_word node.unit))
 
@@ -156,14 +166,15 @@ abbrev pub ChosenIn : Option (Text × List Row) → Options → Type 0
 ChosenIn None o = ⊥
 ChosenIn (Some found) o = Chosen found.0 (λ id. first_of id found.1) o
 
--- the bench's command, with the names that it takes for modes, tables, what an audit chooses of these, and units
+-- the bench's command, with the names that it takes for kinds of node, modes, tables, what an audit chooses of these, and units
 abbrev pub IsBench : App → Type 0
-IsBench app = (modes : Listed) × (tables : Listed) × (choices : Listed) × (units : Listed) × ListsModes modes × ListsTables tables × ListsChoices choices
-    × ListsUnits units × (app ≡ bench_app modes tables choices units)
+IsBench app = (roles : Listed) × (modes : Listed) × (tables : Listed) × (choices : Listed) × (units : Listed)
+    × ListsRoles roles × ListsModes modes × ListsTables tables × ListsChoices choices × ListsUnits units
+    × (app ≡ bench_app roles modes tables choices units)
 
 -- arguments say these options: none say `node` with its defaults, others what the command finds in them
 abbrev pub Says : List Text → Options → Type 0
-Says [] (Node node) = (node.mac ≡ 2 ∷ 0 ∷ 0 ∷ 0 ∷ 0 ∷ 1 ∷ []) × (node.mode ≡ H) × (node.table ≡ Large) × (node.unit ≡ Milliseconds)
+Says [] (Node node) = (node.role ≡ Danh) × (node.mac ≡ 2 ∷ 0 ∷ 0 ∷ 0 ∷ 0 ∷ 1 ∷ []) × (node.mode ≡ H) × (node.table ≡ Large) × (node.unit ≡ Milliseconds)
 Says [] o = ⊥
 Says (w ∷ ws) o = (app : App) × IsBench app × ChosenIn (subcommand_of app (w ∷ ws)) o
 

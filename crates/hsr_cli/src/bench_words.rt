@@ -5,16 +5,17 @@ ghost use Rattle.hsr_frame.specs.Address.{IsGroup, address_of};
 ghost use Rattle.hsr_frame.specs.Words.{mode_word};
 ghost use Rattle.hsr_text.specs.Moments.{unit_word};
 ghost use Rattle.hsr_table_size.specs.Sizes.{table_words};
+ghost use Rattle.hsr_options.specs.Roles.{node_role_word};
 ghost use Rattle.clap.specs.Words.{Text, app_of, first_value, found_of, kind_of, new_app, rule_of, subcommand_rows_of, with_rule};
 ghost use Rattle.clap.specs.declared.builder.Command.TheViews.{out-Command as fields_of};
 ghost use Rattle.clap.specs.declared.error.kind.ErrorKind.TheVariants.{OutOfMemory};
 ghost use Rattle.hsr_cli.specs.Refusal.{IfUsage};
-ghost use Rattle.hsr_cli.specs.Options.{Chosen, ChosenIn, IsAsked, IsForm, IsNode, IsRefused, IsScope, IsShowing, IsTable, IsTableChoice, IsTaken, Says, SaysNothing, audit_app, bench_app, flag_rule, flag_text, mac_rule, mode_rule, node_app, run_app, table_rule, playing_app, top_app, unit_rule, with_asked, with_told};
+ghost use Rattle.hsr_cli.specs.Options.{Chosen, ChosenIn, IsAsked, IsForm, IsNode, IsRefused, IsScope, IsShowing, IsTable, IsTableChoice, IsTaken, Says, SaysNothing, audit_app, bench_app, flag_rule, flag_text, mac_rule, mode_rule, node_app, role_rule, run_app, table_rule, playing_app, top_app, unit_rule, with_asked, with_told};
 
 use crate::fault::{OptionFault, refused, usage};
 use clap::{Arg, ArgAction, ArgMatches, Command};
 use hsr_frame::{Mac, Mode, NoMemory};
-use hsr_options::{Asked, Form, NodeOptions, Options, Scope, Showing, TableChoice};
+use hsr_options::{Asked, Form, NodeOptions, NodeRole, Options, Scope, Showing, TableChoice};
 use hsr_table_size::{TableSize, table_words};
 use hsr_text::TimeUnit;
 use hsr_version::VERSION;
@@ -23,20 +24,24 @@ use std::alloc::Global;
 const NODE_LINES: &str = "\
 Each line of standard input, with one space between its words, is one of:
   send <at> <dst> <type> <payload> [<vlan>]   the node sends a frame
-  life <at>                                   the node sends a supervision frame
-  arrive <at> A|B <octets>                    octets come to a ring port
+  life <at> [<station>]                       the node sends a supervision frame, a redbox also about a station
+  arrive <at> <port> <octets>                 octets come to a port
   age <at>                                    the node drops what is expired
-where <at> is a moment in milliseconds, or in microseconds with --unit us, <dst> an address as
+where <at> is a moment in milliseconds, or in microseconds with --unit us, <dst> and <station> addresses as
 02-00-00-00-00-02, <type> and <vlan> (a VLAN tag's control information) four hexadecimal digits, and
-octets are in hexadecimal, - for none.
+octets are in hexadecimal, - for none. A port is A or B, of a redbox also I, its interlink, and of a
+quadbox also C or D, those of its other ring. A quadbox has neither send nor life, address nor mode.
 
-The answers: `sent <number>` or `life <number> <count>` with the octets of both copies; `passed` with the
-egresses up, A, B and the frame that went up; `duplicate`, `returned`, `foreign`, `untagged`,
-`malformed <fault>`; `aged`; `refused <reason>` (1 to the node itself, 2 a reserved type, 3 no step is
-left, 4 over 1500 octets of payload). The last line counts what happened. A bad line ends the run with
-status 1.
+The answers: `sent <number>` or `life <number> <count>`, then by each port the octets that leave there;
+`passed` with the egresses up and ports, then the frame that went up, and of a redbox or quadbox by each
+port the octets that leave there; `duplicate`, `returned`, `foreign`, `local` (from the interlink to a
+station there), `untagged`, `tagged`, `malformed <fault>`; `aged`; `refused <reason>` (1 to the node itself,
+2 a reserved type, 3 no step is left, 4 over 1500 octets of payload, 5 about no known station). A redbox
+sends to a known station without a number: `sent -`. The last line counts what happened. A bad line, also
+one that this kind of node doesn't have, ends the run with status 1.
 
-Example: echo 'send 0 02-00-00-00-00-02 0800 AABB' | hsr_bench node";
+Examples: echo 'send 0 02-00-00-00-00-02 0800 AABB' | hsr_bench node
+          echo 'arrive 0 I 02000000000202000000000A0800AABB' | hsr_bench node --role redbox";
 
 /// How help is asked for.
 const ASK_HELP: &str = "usage: --help";
@@ -139,13 +144,24 @@ doubt that, named in the last line. Status 1: there is no report, and one line o
 why: `fault: transcript line <n>` (bad, or not what the node answers), `fault: transcript version`,
 `fault: transcript end` (it breaks off), `fault: check <n>` (links and records disagree).";
 
+fn role_arg<'a>(alloc: Global, roles: &'a [&'a str]) -> Arg<'a>
+    ensures rule { rule_of result ≡ role_rule roles.entry }
+    ensures own { result.global ≡ false }
+{
+    Arg::new(alloc, "role")
+        .long("role")
+        .help("The kind of node")
+        .value_parser(roles)
+        .default_value(NodeRole::Danh.word())
+}
+
 fn mac_arg<'a>(alloc: Global) -> Arg<'a>
     ensures rule { rule_of result ≡ mac_rule }
     ensures own { result.global ≡ false }
 {
     Arg::new(alloc, "mac")
         .long("mac")
-        .help("The node's address, which is no group's")
+        .help("The node's address, which is no group's; a quadbox has none")
         // The 2 says that the address is locally administered (IEEE 802 clause 8).
         .default_value("02-00-00-00-00-01")
 }
@@ -247,30 +263,46 @@ fn telling<'a>(alloc: Global, command: Command<'a>) -> Result<Command<'a>, NoMem
     with_flag(alloc, two, "explain", explain)
 }
 
-/// The command `node` with the options for the node's address and mode.
-fn node_placed<'a>(alloc: Global, modes: &'a [&'a str]) -> Result<Command<'a>, NoMemory>
+/// The command `node` with the options for the node's kind and address.
+fn node_named<'a>(alloc: Global, roles: &'a [&'a str]) -> Result<Command<'a>, NoMemory>
     ensures app { IfOk result (λ c. app_of c
-        ≡ with_rule (with_rule (new_app (codes "node")) mac_rule) (mode_rule modes.entry)) }
+        ≡ with_rule (with_rule (new_app (codes "node")) (role_rule roles.entry)) mac_rule) }
     ensures own { IfOk result (λ c. (fields_of c).has_globals ≡ false) }
 {
     let command = Command::new(alloc, "node")
-        .about("Answers lines of standard input as one DANH")
+        .about("Answers lines of standard input as one node: a DANH, a RedBox or a QuadBox")
         .after_help(NODE_LINES)
-        .arg(mac_arg(alloc))?
-        .arg(mode_arg(alloc, modes))?;
+        .arg(role_arg(alloc, roles))?
+        .arg(mac_arg(alloc))?;
+    Ok(command)
+}
+
+/// That command, with the option for the node's mode too.
+fn node_placed<'a>(
+    alloc: Global,
+    roles: &'a [&'a str],
+    modes: &'a [&'a str],
+) -> Result<Command<'a>, NoMemory>
+    ensures app { IfOk result (λ c. app_of c
+        ≡ with_rule (with_rule (with_rule (new_app (codes "node")) (role_rule roles.entry)) mac_rule) (mode_rule modes.entry)) }
+    ensures own { IfOk result (λ c. (fields_of c).has_globals ≡ false) }
+{
+    let command = node_named(alloc, roles)?.arg(mode_arg(alloc, modes))?;
     Ok(command)
 }
 
 fn node_command<'a>(
     alloc: Global,
+    roles: &'a [&'a str],
     modes: &'a [&'a str],
     tables: &'a [&'a str],
     units: &'a [&'a str],
 ) -> Result<Command<'a>, NoMemory>
-    ensures app { IfOk result (λ c. app_of c ≡ node_app modes.entry tables.entry units.entry) }
+    ensures app { IfOk result (λ c. app_of c
+        ≡ node_app roles.entry modes.entry tables.entry units.entry) }
     ensures own { IfOk result (λ c. (fields_of c).has_globals ≡ false) }
 {
-    let command = node_placed(alloc, modes)?
+    let command = node_placed(alloc, roles, modes)?
         .arg(table_arg(alloc, TABLE_HELP, tables))?
         .arg(unit_arg(alloc, units))?;
     Ok(command)
@@ -331,15 +363,16 @@ fn top_command<'a>(alloc: Global) -> Result<Command<'a>, NoMemory>
 
 fn bench_command<'a>(
     alloc: Global,
+    roles: &'a [&'a str],
     modes: &'a [&'a str],
     tables: &'a [&'a str],
     choices: &'a [&'a str],
     units: &'a [&'a str],
 ) -> Result<Command<'a>, NoMemory>
     ensures { IfOk result (λ c. app_of c
-        ≡ bench_app modes.entry tables.entry choices.entry units.entry) }
+        ≡ bench_app roles.entry modes.entry tables.entry choices.entry units.entry) }
 {
-    let node = node_command(alloc, modes, tables, units)?;
+    let node = node_command(alloc, roles, modes, tables, units)?;
     let run = run_command(alloc, tables)?;
     let threads = playing_command(alloc, "threads", THREADS_ABOUT, THREADS_ENDS, tables)?;
     let audit = audit_command(alloc, choices)?;
@@ -381,6 +414,16 @@ fn mode_of(matches: &ArgMatches<'_>) -> Option<Mode>
         ≢ Some (mode_word m)) }
 {
     Mode::from_word(matches.get_str("mode")?.as_bytes())
+}
+
+#[tactic(auto, using(crate::proofs::BenchFound::role_found, crate::proofs::BenchFound::role_unread))]
+fn role_of(matches: &ArgMatches<'_>) -> Option<NodeRole>
+    ensures found { IfSome result (λ r. first_value (found_of matches.now) (codes "role")
+        ≡ Some (node_role_word r)) }
+    ensures none { IfNone result ((r : _) → first_value (found_of matches.now) (codes "role")
+        ≢ Some (node_role_word r)) }
+{
+    NodeRole::from_word(matches.get_str("role")?.as_bytes())
 }
 
 #[tactic(auto, using(crate::proofs::BenchFound::unit_found, crate::proofs::BenchFound::unit_unread))]
@@ -487,11 +530,13 @@ fn node_options(matches: &ArgMatches<'_>) -> Option<NodeOptions>
     ensures none { IfNone result ((node : NodeOptions)
         → ¬ IsNode (first_value (found_of matches.now)) node) }
 {
+    let role = role_of(matches)?;
     let mode = mode_of(matches)?;
     let table = table_of(matches)?;
     let unit = unit_of(matches)?;
     let mac = mac_of(matches)?;
     Some(NodeOptions {
+        role,
         mac,
         mode,
         table,
@@ -574,6 +619,7 @@ pub fn options<'a>(alloc: Global, words: &'a [&'a str]) -> Result<Options, Optio
     // Clap would ask for a subcommand.
     if words.is_empty() {
         return Ok(Options::Node(NodeOptions {
+            role: NodeRole::Danh,
             // The default of `--mac`.
             mac: Mac::new([2, 0, 0, 0, 0, 1]),
             mode: Mode::H,
@@ -581,12 +627,18 @@ pub fn options<'a>(alloc: Global, words: &'a [&'a str]) -> Result<Options, Optio
             unit: TimeUnit::Milliseconds,
         }));
     }
+    let roles = [
+        NodeRole::Danh.word(),
+        NodeRole::RedBox.word(),
+        NodeRole::QuadBox.word(),
+    ];
     let modes = [Mode::H.word(), Mode::N.word(), Mode::U.word()];
     let tables = TableSize::words();
     let choices = choices();
     let units = [TimeUnit::Milliseconds.word(), TimeUnit::Microseconds.word()];
     let command = bench_command(
         alloc,
+        roles.as_slice(),
         modes.as_slice(),
         tables.as_slice(),
         choices.as_slice(),

@@ -1,6 +1,7 @@
 //! What a command line chooses.
 ghost use Rattle.hsr_frame.specs.Address.{IsGroup};
 
+use crate::role::NodeRole;
 use hsr_frame::{Mac, Mode};
 use hsr_table_size::TableSize;
 use hsr_text::TimeUnit;
@@ -88,9 +89,10 @@ pub enum TableChoice {
     Told,
 }
 
-/// The node that `node` runs. No group has its address.
+/// The node that `node` runs. No group has its address. Address and mode say nothing of a QuadBox.
 #[derive(Clone, Copy, Debug, PartialEq, Eq)]
 pub struct NodeOptions {
+    pub role: NodeRole,
     pub mac: Mac,
     pub mode: Mode,
     pub table: TableSize,

@@ -1,12 +1,11 @@
 use Rattle.std.proofs.Common.{◌+◌, ◌≤◌, ◌^◌}
-use Rattle.hsr_danh.specs.Machine.{new_machine}
 use Rattle.hsr_commands.proofs.Turns.{Way}
 use Rattle.hsr_commands.proofs.engine.run.Given as goal
 
 abbrev pub invariant-loop-number : goal.invariant-loop-number
 invariant-loop-number g l = record {
-  way : Way l.chosen.unit g.row.C (new_machine l.chosen.mac l.chosen.mode) (g.R.Read.remaining l.initial.reader) (g.R.Read.remaining l.reader)
-      (g.W.Write.contents l.initial.writer) (g.W.Write.contents l.writer) l.danh l.number;
+  way : Way g.row.C l.setting (g.R.Read.remaining l.initial.reader) (g.R.Read.remaining l.reader)
+      (g.W.Write.contents l.initial.writer) (g.W.Write.contents l.writer) l.node l.number;
   numbers : l.number + l.reads ≤ 2 ^ 40 + 1;
 }
 
