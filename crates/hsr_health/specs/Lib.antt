@@ -1,0 +1,9 @@
+pub mod Numbering
+pub mod Broken
+pub mod Loads
+pub mod Spreads
+pub mod Kinds
+pub mod Counted
+pub mod Told
+pub mod Hearing
+pub mod Order

@@ -1,0 +1,5 @@
+pub mod Backwards
+pub mod Begun
+pub mod Tapped
+pub mod Heard
+pub mod Plays
