@@ -37,6 +37,7 @@ class Case:
     output: bytes | None = b""
     error: bytes | None = b""
     status: int = 0
+    files: dict[str, bytes] = field(default_factory=dict)  # what it has to put into FOLDER, by names
 
     @property
     def title(self):
@@ -141,6 +142,8 @@ def add(case, part, cases):
         case.status = int(part.said)
     elif part.word == "input":
         case.given = octets_named(part, cases)
+    elif part.word == "puts":
+        case.files[part.said] = part.text or b""
     elif part.word in ("output", "error"):
         setattr(case, part.word, ANY if part.said == "any" else octets_named(part, cases))
     else:
@@ -151,9 +154,10 @@ def made(name, told, program, group, cases):
     """A case of its parts."""
     case, words = Case(program, group, name), set()
     for part in (part for part in told if part.word != "line"):
-        if part.word in words:
-            raise Fault(f"{part.place}: {part.word} twice")
-        words.add(part.word)
+        word = f"puts {part.said}" if part.word == "puts" else part.word
+        if word in words:
+            raise Fault(f"{part.place}: {word} twice")
+        words.add(word)
         add(case, part, cases)
     case.given = with_lines(case.given, [part for part in told if part.word == "line"])
     if case.status == 3 and "error" not in words:

@@ -1,8 +1,12 @@
 """The worked cases of tests/cases: arguments, input, output, error and status of each."""
+import tempfile
+from pathlib import Path
+
 from lib import case_files
 from lib.running import Job, Tally, difference, run
 
 USAGE = b"usage: --mac"
+FOLDER = "FOLDER"  # a word that stands for an empty folder of the case's own
 
 
 def told_freely(error):
@@ -11,7 +15,23 @@ def told_freely(error):
     return ["error: no text about the words"] if len(error) <= 20 or is_fault else []
 
 
-def wrong(case, status, output, error):
+def wrong_files(case, files):
+    """What is wrong with the files that are in the folder of a case."""
+    found = [] if sorted(files) == sorted(case.files) else [f"files {sorted(files)} and not {sorted(case.files)}"]
+    for name in sorted(files.keys() & case.files.keys()):
+        found += difference(name, files[name], case.files[name])
+    return found
+
+
+def run_case(setting, case):
+    """Runs a case: its status, output, error, and what it put into its folder."""
+    with tempfile.TemporaryDirectory(dir=setting.work) as folder:
+        words = [word.replace(FOLDER, folder) for word in case.words]
+        answer = run(setting, case.program, words, case.given)
+        return *answer, {path.name: path.read_bytes() for path in Path(folder).iterdir()}
+
+
+def wrong(case, status, output, error, files):
     """What is wrong with an answer to a case."""
     found = [] if status == case.status else [f"status {status} and not {case.status}"]
     if case.output is not case_files.ANY:
@@ -20,6 +40,7 @@ def wrong(case, status, output, error):
         found += difference("error", error, case.error)
     elif case.status == 3:
         found += told_freely(error)
+    found += wrong_files(case, files)
     return "\n".join(found)
 
 
@@ -27,7 +48,7 @@ def try_group(setting, program, name):
     """Runs the cases of a file."""
     tally = Tally()
     for case in case_files.group(program, name):
-        tally.count(case.title, wrong(case, *run(setting, program, case.words, case.given)))
+        tally.count(case.title, wrong(case, *run_case(setting, case)))
     return tally
 
 

@@ -1,6 +1,6 @@
 """Compares the program with model.py, a second implementation: random scenarios on networks of all kinds by `run` and `audit`, with
-and without each of `--load`, `--latency`, `--deliveries`, `--needed`, `--budget` and `--network`, and by `run --transcript`, and
-random lines by `node`; every octet of what is printed, and the status.
+and without each of `--load`, `--latency`, `--deliveries`, `--needed`, `--budget` and `--network`, with `--names` and with `--csv`, and by
+`run --transcript`, and random lines by `node`; every octet of what is printed and of each table, and the status.
 
     python3 tests/second/compare.py [COUNT [SEED [PROGRAM]]]
 
@@ -10,6 +10,7 @@ line says how many agreed.
 import random
 import subprocess
 import sys
+import tempfile
 from collections import Counter
 from pathlib import Path
 
@@ -147,7 +148,11 @@ class Steps:
             step["vlan"] = self.chance.choice([0, 5, 0x6005, 65535])
         if place:
             step["from"] = place
-        self.do(step)
+        self.do(self.named_stream(step))
+
+    def named_stream(self, step):
+        """A step that sends, perhaps with the name of a stream, which changes nothing."""
+        return {**step, "stream": self.chance.choice(["a", "sv1", "-", "goose-12", "9" * 32])} if self.chance.random() < 0.2 else step
 
     def life(self):
         node = self.chance.choice(self.scenario["node"])
@@ -159,7 +164,7 @@ class Steps:
                 step["about"] = self.chance.choice(about)
             elif self.is_odd and self.chance.random() < 0.5:
                 step["about"] = self.chance.choice(self.macs)
-            self.do(step)
+            self.do(self.named_stream(step))
 
     def clock(self):
         later = self.chance.choice([1, 5, 100, 200, 399, 400, 401, -50, 1000, 59999, 60000])
@@ -252,22 +257,40 @@ def frame(chance):
     return octets
 
 
-def node_lines(chance, unit):
+def plain_frame(chance):
+    """Octets that are mostly a plain frame, as they come by an interlink."""
+    octets = frame(chance)
+    made = model.read(octets)
+    return octets if isinstance(made, int) or chance.random() < 0.1 else made.plain()
+
+
+def node_line(chance, role, at):
+    """A line of `node`, which for a QuadBox is now and then none of its kind."""
+    kind = chance.random()
+    if kind < 0.2 and (role != "quadbox" or chance.random() < 0.01):
+        payload = chance.randbytes(chance.choice([0, 1, 46])) if chance.random() < 0.95 else bytes(chance.choice([1500, 1501]))
+        to, type4 = chance.choice([mac(2), mac(1), GROUP]), chance.choice([0x0800, 0x0800, 0x88FB, model.VLAN, model.HSR])
+        return f"send {at} {to} {type4:04X} {model.hexadecimal(payload)}" + chance.choice(["", "", " 0005"])
+    if kind < 0.25 and role != "quadbox":
+        about = chance.choice(["", " " + mac(chance.choice([1, 2, 2, 3, 7]))]) if role == "redbox" or chance.random() < 0.01 else ""
+        return f"life {at}{about}"
+    if kind < 0.3:
+        return f"age {at}"
+    port = chance.choice(model.PORTS[role])
+    return f"arrive {at} {port} {model.hexadecimal(plain_frame(chance) if port == 'I' else frame(chance))}"
+
+
+def node_lines(chance, role, unit):
     at, lines = 0, []
     for _ in range(chance.randint(1, 60)):
         later = chance.choice([0, 0, 1, 10, 100, 399, 400, -30])
+        # Stations are forgotten after a minute.
+        if role == "redbox" and chance.random() < 0.03:
+            later = chance.choice([59900, 59999, 60000])
         if unit == "us":
             later = later * 1000 + chance.choice([0, 0, -1, 1])
         at = max(0, at + later)
-        kind = chance.random()
-        if kind < 0.2:
-            payload = chance.randbytes(chance.choice([0, 1, 46])) if chance.random() < 0.95 else bytes(chance.choice([1500, 1501]))
-            to, type4 = chance.choice([mac(2), mac(1), GROUP]), chance.choice([0x0800, 0x0800, 0x88FB, model.VLAN, model.HSR])
-            lines.append(f"send {at} {to} {type4:04X} {model.hexadecimal(payload)}" + chance.choice(["", "", " 0005"]))
-        elif kind < 0.3:
-            lines.append(chance.choice([f"life {at}", f"age {at}"]))
-        else:
-            lines.append(f"arrive {at} {chance.choice('AB')} {model.hexadecimal(frame(chance))}")
+        lines.append(node_line(chance, role, at))
     return lines
 
 
@@ -302,6 +325,31 @@ def compare_told(name, transcript, capacity, ends):
             expect(name, ["audit", "--table", "auto"], text, (1, "", fault))
 
 
+def compare_named(name, given, transcript, words, ends):
+    """Compares the report by names, of a run and of an audit that takes the names from a file."""
+    expect(name, ["run", "--names", *words], given, ends)
+    with tempfile.NamedTemporaryFile("w", suffix=".toml") as scenario:
+        scenario.write(given)
+        scenario.flush()
+        expect(name, ["audit", "--names", scenario.name, *words], transcript, ends)
+
+
+def compare_tables(name, given, transcript, words, world, made):
+    """Compares the tables of a run by numbers, and of an audit by names."""
+    is_network = "--network" in words
+    with tempfile.TemporaryDirectory() as folder:
+        scenario = Path(folder) / "scenario.toml"
+        scenario.write_text(given)
+        for told, names, taken in ((["run"], None, given), (["audit", "--names", str(scenario)], world.names(made), transcript)):
+            bench([*told, "--csv", folder, *words], taken)
+            for table, expected in world.tables(is_network, names).items():
+                file = Path(folder) / f"{table}.csv"
+                got = file.read_text() if file.exists() else "no file\n"
+                if got != expected:
+                    print(f"{name}: {table}.csv of {' '.join(told)}\n--- input\n{given}--- the program\n{got}--- the model\n{expected}")
+                    raise Differs
+
+
 def compare_made(name, made, capacity, asked, word=None):
     """Compares all that the program says of a scenario, and tells how it ended."""
     table = ["--table", word or str(capacity)]
@@ -320,6 +368,8 @@ def compare_made(name, made, capacity, asked, word=None):
     expect(name, ["run", "--transcript", *flags, *table], given, (ends, transcript, ""))
     expect(name, ["audit", *table], transcript, (status, report, ""))
     expect(name, ["audit", *flags, *table], transcript, (ends, parts, ""))
+    compare_named(name, given, transcript, [*flags, *table], (ends, world.names(made).report(parts), ""))
+    compare_tables(name, given, transcript, [*flags, *table], world, made)
     compare_told(name, transcript, capacity, (status, report, ""))
     if world.is_whole():
         expect(name, ["audit", *table], world.transcript("ms"), (status, report, ""))
@@ -360,11 +410,13 @@ def far_edges():
 def compare_node(seed):
     chance = random.Random(seed)
     mode, (word, capacity), unit = chance.choice("HNU"), size(chance), chance.choice(["ms", "us"])
-    lines = node_lines(chance, unit)
+    role = chance.choice(["danh", "redbox", "redbox", "quadbox"])
+    lines = node_lines(chance, role, unit)
     words = ["node", "--mode", mode, "--table", word]
     words += ["--unit", unit] if unit == "us" else []
-    expect(f"seed {seed}", words, model.text(lines), (0, model.node_run(lines, mode, capacity, unit), ""))
-    return "node"
+    words += ["--role", role] if role != "danh" or chance.random() < 0.5 else []
+    expect(f"seed {seed}", words, model.text(lines), model.node_run(lines, role, mode, capacity, unit))
+    return "node " + role
 
 
 def use(program):

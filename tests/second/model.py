@@ -560,25 +560,28 @@ class World:
         return losses
 
     def delivery(self, send, frame, ups, losses):
-        """The line of a send, or None where it is complete."""
+        """Who got a send: the nodes that it was due at, those of them that missed it or had it twice, those to which it strayed, and its losses."""
         due = self.due(send, frame)
         missed = [number for number in due if ups.count(number) == 0]
         twice = [number for number in due if ups.count(number) > 1]
         strayed = sorted(set(ups) - set(due))
-        if not missed and not twice and not strayed:
-            return None
-        number, place = send
-        at = self.nodes[number].record[place][1]
-        lost = [f"{link}:{['forth', 'back'][row.dir]}:{row.fate}" for link, row in losses]
-        got = f"missed {listed(missed)} twice {listed(twice)} strayed {listed(strayed)} lost {listed(lost)}"
-        return f"send {named(send)} at {at} to {printed(frame.dst)} due {len(due)} {got}"
+        return due, missed, twice, strayed, [f"{link}:{['forth', 'back'][row.dir]}:{row.fate}" for link, row in losses]
+
+    def all_deliveries(self):
+        """Each send with its frame and who got it."""
+        ups, losses = self.ups(), self.losses()
+        return [(send, frame, self.delivery(send, frame, ups.get(send, []), losses.get(send, []))) for send, frame in self.sends()]
 
     def deliveries(self):
         """The lines of sends: one for each that isn't complete, and the counts."""
-        ups, losses = self.ups(), self.losses()
-        lines = [self.delivery(send, frame, ups.get(send, []), losses.get(send, [])) for send, frame in self.sends()]
-        told = [line for line in lines if line]
-        return [*told, f"deliveries {len(lines)} complete {len(lines) - len(told)}"]
+        lines, count = [], 0
+        for (number, place), frame, (due, missed, twice, strayed, lost) in self.all_deliveries():
+            count += 1
+            if missed or twice or strayed:
+                at = self.nodes[number].record[place][1]
+                got = f"missed {listed(missed)} twice {listed(twice)} strayed {listed(strayed)} lost {listed(lost)}"
+                lines.append(f"send {number}:{place} at {at} to {printed(frame.dst)} due {len(due)} {got}")
+        return [*lines, f"deliveries {count} complete {count - len(lines)}"]
 
     def needed(self):
         """The line of what the run needed: the greatest count of all nodes, at the lowest that has it."""
@@ -733,6 +736,56 @@ class World:
         lines += self.lacks() if "network" in asked else []
         return text([*lines, self.network_verdict() if "network" in asked else self.verdict()])
 
+    def names(self, scenario):
+        """What the report with `--names` calls nodes and entries."""
+        entries = []
+        for node, told in zip(self.nodes, map(iter, streams(scenario))):
+            is_own = [event.text.split(" ")[0] in ("send", "life") for _, _, event, _ in node.record]
+            entries.append([(at, next(told) if own else "") for (_, at, _, _), own in zip(node.record, is_own)])
+        return Names([said["name"] for said in scenario["node"]], entries)
+
+    def tables(self, is_network, names=None):
+        """The six tables of `--csv`, by their names: of each its rows, its head first."""
+        names = names or Numbers()
+        rows = {"nodes": ["node role sent life up forwarded duplicate returned dropped".split()]}
+        for node in self.nodes:
+            rows["nodes"].append([names.node(node.number), node.role, *node.counters().split(" ")[1::2]])
+        rows["links"] = ["link from to put taken lost lost_down lost_cut lost_overrun".split()]
+        for number, link in enumerate(self.links):
+            fates = [row.fate for row in link.rows]
+            lost = [fates.count(fate) for fate in ("down", "cut", "overrun")]
+            rows["links"].append([number, *(names.port(end) for end in link.ends), len(fates), fates.count("taken"), sum(lost), *lost])
+        rows["sends"] = ["send node place at_us to complete due missed twice strayed lost".split()]
+        for send, frame, (due, *wrong, lost) in self.all_deliveries():
+            number, place = send
+            lists = [" ".join(names.node(one) for one in nodes) for nodes in (due, *wrong)] + [" ".join(lost)]
+            at = self.nodes[number].record[place][1]
+            rows["sends"].append([names.send(send), names.node(number), place, at, printed(frame.dst), "no" if any(wrong) else "yes", *lists])
+        rows["load"] = ["from to frames octets mean_kbit_s worst_ms_kbit_s at_us".split()]
+        for words in (line.split(" ") for line in self.load()[:-1]):
+            rows["load"].append([*(names.port_word(word) for word in words[1:3]), *words[4::2]])
+        rows["latency"] = ["node frames worst_us worst_send second_us second_send".split()]
+        for words in (line.split(" ") for line in self.latency()[:-1]):
+            second = [words[9], names.send_word(words[11])] if len(words) > 10 else ["", ""]
+            rows["latency"].append([names.node(int(words[1])), words[3], words[5], names.send_word(words[7]), *second])
+        rows["doubt"] = ["audit verdict sends doubt entry node place receiver link".split(), self.doubt_row(is_network, names)]
+        return {name: "".join(",".join(map(str, row)) + "\n" for row in table) for name, table in rows.items()}
+
+    def doubt_row(self, is_network, names):
+        """The row of what the audit found."""
+        verdict, *words = (self.network_verdict() if is_network else self.verdict()).split(" ")
+        audit = "network" if is_network else "ring"
+        if verdict == "certified":
+            return [audit, verdict, words[0], "", "", "", "", "", ""]
+        doubt, *numbers = words
+        numbers = [int(number) for number in numbers]
+        if doubt == "side":
+            return [audit, verdict, "", doubt, "", "", "", "", numbers[0]]
+        if not numbers:
+            return [audit, verdict, "", doubt, "", "", "", "", ""]
+        receiver = names.node(numbers[2]) if numbers[2:] else ""
+        return [audit, verdict, "", doubt, names.send(tuple(numbers[:2])), names.node(numbers[0]), numbers[1], receiver, ""]
+
     def transcript(self, unit="us"):
         """Its text of version 2, or of version 1, which tells milliseconds."""
         lines = [f"hsr-bench {['ms', 'us'].index(unit) + 1}", f"table {self.capacity}", f"nodes {len(self.nodes)}"]
@@ -770,6 +823,71 @@ def listed(words):
 
 def text(lines):
     return "".join(line + "\n" for line in lines)
+
+
+class Numbers:
+    """What a report calls nodes, ports and sends without `--names`."""
+
+    def node(self, number):
+        return str(number)
+
+    def port(self, end):
+        return f"{self.node(end[0])}.{end[1]}"
+
+    def send(self, send):
+        return "{}:{}".format(*send)
+
+    def port_word(self, word):
+        number, port = word.split(".")
+        return self.port((int(number), port))
+
+    def send_word(self, word):
+        return self.send(tuple(int(number) for number in word.split(":")))
+
+
+class Names(Numbers):
+    """What it calls them with `--names`: by the nodes' names, and of each node's entries their moments and streams."""
+
+    def __init__(self, nodes, entries):
+        self.nodes, self.entries = nodes, entries
+
+    def node(self, number):
+        return self.nodes[number]
+
+    def send(self, send):
+        number, place = send
+        at, stream = self.entries[number][place]
+        return f"{self.nodes[number]}@{at}us:{place}" + (f"/{stream}" if stream else "")
+
+    def line(self, line):
+        """A line of a report by names."""
+        words = line.split(" ")
+        if words[0] == "node":
+            words[1] = self.node(int(words[1]))
+        elif words[:2] == ["load", "most"]:
+            words[3] = self.port_word(words[3])
+        elif words[0] == "load" and words[1] != "none":
+            words[1:3] = [self.port_word(word) for word in words[1:3]]
+        elif words[0] == "latency" and words[1] != "none":
+            place = 3 if words[1] == "worst" else 1
+            words[place] = self.node(int(words[place]))
+            words = [self.send_word(word) if ":" in word else word for word in words]
+        elif words[0] == "send":
+            words[1] = self.send_word(words[1])
+            for place in (9, 11, 13):
+                words[place] = listed([self.node(int(word)) for word in words[place].split(",") if word != "-"])
+        elif words[0] in ("unlinked", "nobody"):
+            words[1] = self.port_word(words[1]) if words[0] == "unlinked" else self.send_word(words[1])
+        elif words[0] == "needed" and words[2:]:
+            words[2:4] = [self.send((int(words[2]), int(words[3])))]
+        elif words[:2] == ["budget", "late"] or words[0] == "doubt" and len(words) > 3:
+            receiver = [self.node(int(word)) for word in words[4:]]
+            words[2:] = [self.send((int(words[2]), int(words[3]))), *receiver]
+        return " ".join(words)
+
+    def report(self, report):
+        """A report by names."""
+        return text(self.line(line) for line in report.splitlines())
 
 
 def load_lines(channels):
@@ -816,37 +934,74 @@ def run(scenario, capacity, limit):
     return 0 if world.verdict().startswith("certified") else 2, world.report(), "", world
 
 
+def streams(scenario):
+    """Of each node the stream of each of its sends and supervision frames, in their order; an empty name where it's from none."""
+    told = {said["name"]: [] for said in scenario["node"]}
+    for said in scenario["step"]:
+        if said["do"] in ("send", "life"):
+            told[said["node"]].append(said.get("stream", ""))
+    return list(told.values())
+
+
 # ---- the command `node`
 
 
+REASONS = ["self-addressed", "reserved-type", "spent", "too-long", "not-proxied"]
+
+
+def octets_of(digits):
+    return b"" if digits == "-" else bytes.fromhex(digits)
+
+
 def answered(node, line, unit):
-    """The lines that answer a line of `node`."""
+    """The lines that answer a line of `node`; refused as a wrong event where the line isn't one of this kind of node."""
     words = line.split(" ")
-    at = int(words[1]) * MICROSECONDS[unit] if len(words) > 1 else 0
+    at = int(words[1]) * MICROSECONDS[unit]
     try:
-        if words[0] == "send":
-            payload = b"" if words[4] == "-" else bytes.fromhex(words[4])
-            answer = node.send(at, 0, address(words[2]), int(words[5], 16) if len(words) > 5 else None, int(words[3], 16), payload)
-        elif words[0] == "life":
-            answer = node.life(at, None)
-        elif words[0] == "age":
+        if words[0] == "age":
             return [node.age(at).outcome]
+        if words[0] == "arrive":
+            return judgement(node, at, words[2], octets_of(words[3]))
+        if words[0] == "send":
+            vlan = int(words[5], 16) if len(words) > 5 else None
+            answer = node.send(at, 0, address(words[2]), vlan, int(words[3], 16), octets_of(words[4]))
         else:
-            return judgement(node, at, words[2], b"" if words[3] == "-" else bytes.fromhex(words[3]))
+            answer = node.life(at, address(words[2]) if len(words) > 2 else None)
     except Refused as refused:
-        return [f"refused {['self-addressed', 'reserved-type', 'spent', 'too-long'].index(str(refused)) + 1}"]
-    return [answer.outcome.removesuffix(" A B")] + [f"{port} {hexadecimal(octets)}" for port, octets in answer.copies.items()]
+        if str(refused) == "wrong-event":
+            raise
+        return [f"refused {REASONS.index(str(refused)) + 1}"]
+    outcome = answer.outcome.split(" ")
+    return [" ".join(outcome[: -len(answer.copies)])] + left_by(answer.copies)
+
+
+def left_by(copies):
+    return [f"{port} {hexadecimal(octets)}" for port, octets in copies.items()]
 
 
 def judgement(node, at, port, octets):
-    cause, _, *outs = node.judge(at, port, octets, object()).outcome.split(" ")[1:]
-    up = ["up " + hexadecimal(read(octets).plain())] if "up" in outs else []
-    return [" ".join([cause.replace("-", " "), *outs])] + up
+    if port not in PORTS[node.role]:
+        raise Refused("wrong-event")
+    answer = node.judge(at, port, octets, object())
+    cause, _, *outs = answer.outcome.split(" ")[1:]
+    lines = [" ".join([cause.replace("-", " "), *outs])]
+    if "up" in outs:
+        lines.append("up " + hexadecimal(read(octets).plain()))
+    # What a DANH passes on leaves as it came, and isn't told again.
+    return lines if node.role == "danh" else lines + left_by(answer.copies)
 
 
-def node_run(lines, mode, capacity, unit="ms"):
-    node = Node(0, {"role": "danh", "mac": "02-00-00-00-00-01", "mode": mode}, capacity)
-    return text([line for asked in lines for line in answered(node, asked, unit)] + [node.counters()])
+def node_run(lines, role, mode, capacity, unit="ms"):
+    """The status, what is printed, and what goes to standard error."""
+    node, printed = Node(0, {"role": role, "mac": "02-00-00-00-00-01", "mode": mode}, capacity), []
+    if role == "quadbox":
+        node.mac = None
+    for number, line in enumerate(lines, 1):
+        try:
+            printed += answered(node, line, unit)
+        except Refused:
+            return 1, text(printed), f"fault: line {number}\n"
+    return 0, text(printed + [node.counters()]), ""
 
 
 def told_size(transcript):

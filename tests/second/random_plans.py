@@ -35,6 +35,7 @@ GROUP = "01-0C-CD-01-00-01"
 TYPES = {"goose": 0x88B8, "sv": 0x88BA}
 SHORTEST = {"goose": lambda name: 75 + 3 * len(name), "sv": lambda name: 98 + len(name)}  # octets of a sender's first frame, for names to 20 octets
 ENDLESS = 1 << 41
+KINDS = {"goose": "goose", "sv": "sv"}  # how the names of their streams begin; those of streams under a number with `other`
 TABLES = model.SIZE_WORDS
 
 
@@ -260,10 +261,18 @@ class Meaning:
                 yield at, state, count
                 at, gap, count = at + gap, min(gap * stream.get("grow", 1), most), count + 1
 
-    def send(self, stream, name, count):
+    def streams(self):
+        """The plan's streams, each with its name: its kind, and its number among those of its kind, from 1."""
+        seen = Counter()
+        for stream in self.plan.get("stream", []):
+            kind = KINDS.get(stream["type"], "other")
+            seen[kind] += 1
+            yield f"{kind}{seen[kind]}", stream
+
+    def send(self, stream, title, name, count):
         behind = self.behind(name)
         kind = TYPES.get(stream["type"], stream["type"])
-        said = {"do": "send", "node": f"{behind}-sans" if behind else name, "to": stream["to"], "type": kind}
+        said = {"do": "send", "node": f"{behind}-sans" if behind else name, "to": stream["to"], "type": kind, "stream": title}
         if behind and self.redboxes[behind].index(name):
             said["from"] = self.redboxes[behind].index(name)
         if "vlan" in stream or "priority" in stream:
@@ -279,8 +288,8 @@ class Meaning:
         life = self.plan.get("life_ms", 2000) * 1000
         lives = [name for name in self.names if name not in self.couplers]
         listed += [(at, {"do": "life", "node": name}) for at in (range(0, self.until, life) if life else ()) for name in lives]
-        for stream in self.plan.get("stream", []):
-            listed += [(at, self.send(stream, name, count)) for name in self.senders(stream) for at, _, count in self.moments(stream)]
+        for title, stream in self.streams():
+            listed += [(at, self.send(stream, title, name, count)) for name in self.senders(stream) for at, _, count in self.moments(stream)]
         return sorted(listed, key=lambda occasion: occasion[0])
 
     def steps(self):

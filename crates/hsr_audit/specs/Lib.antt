@@ -2,7 +2,6 @@ pub mod Danhs
 pub mod Coming
 pub mod Sends
 pub mod Doubts
-pub mod Words
 pub mod Round
 pub mod Certificate
 pub mod Listed

@@ -4,7 +4,6 @@ ghost use Rattle.hsr_audit.specs.Doubts.{doubt_at};
 
 use hsr_frame::NoMemory;
 use hsr_table_flaws::Flaw;
-use std::fmt;
 
 /// Why a run can't be certified, in the order in which the reasons are tried: each of a ring's audit or of a network's,
 /// or of both. Of those that name a place of a node's record the lowest node is named, and its lowest place.
@@ -74,36 +73,6 @@ impl From<NoMemory> for AuditFault {
 
     fn from(_fault: NoMemory) -> AuditFault {
         AuditFault::NoMemory
-    }
-}
-
-/// A word, and the numbers of what it names: a link, or a node and a place, and for a cut the node that the send
-/// doesn't come to.
-impl fmt::Display for Doubt {
-    ghost use Rattle.std.specs.Prelude.{Some};
-    ghost use Rattle.hsr_audit.specs.Words.{doubt_text};
-
-    ghost output = { λ doubt. Some (doubt_text doubt) };
-
-    fn fmt<W: fmt::Write>(&self, f: &mut fmt::Formatter<W>) -> fmt::Result {
-        match self {
-            Doubt::NotRing => write!(f, "not-ring"),
-            Doubt::Empty => write!(f, "empty"),
-            Doubt::Mode => write!(f, "mode"),
-            Doubt::SameAddress => write!(f, "same-address"),
-            Doubt::Side { link } => write!(f, "side {link}"),
-            Doubt::TwoLinks => write!(f, "two-links"),
-            Doubt::Forgot { node, place } => write!(f, "forgot {node} {place}"),
-            Doubt::Mistaken { node, place } => write!(f, "mistaken {node} {place}"),
-            Doubt::NumberedLate { node, place } => write!(f, "numbered-late {node} {place}"),
-            Doubt::CutOff {
-                node,
-                place,
-                receiver,
-            } => write!(f, "cut-off {node} {place} {receiver}"),
-            Doubt::UnknownStation { node, place } => write!(f, "unknown-station {node} {place}"),
-            Doubt::Uncovered { node, place } => write!(f, "uncovered {node} {place}"),
-        }
     }
 }
 

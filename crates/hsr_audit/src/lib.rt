@@ -41,9 +41,7 @@ pub use breach::{Budget, BudgetFault};
 pub use budgeting::{budget, most_sends};
 pub use certificate::{Certificate, Certified};
 pub use doubt::{AuditFault, Doubt};
-pub use hsr_deliveries::{
-    Deliveries, Delivery, Loss, deliveries, once_is_complete, put_deliveries,
-};
+pub use hsr_deliveries::{Deliveries, Delivery, Loss, deliveries, once_is_complete};
 pub use hsr_finished_run::{CheckFault, Closed, Disagree, Parts, Planned, Records, passes_of};
 pub use hsr_run_laws::{
     boxless, budget_keeps, budget_tells, exactly_once, no_storm, once_in_budget,

@@ -1,4 +1,4 @@
-//! The bench as a library: each command over a reader and a writer, the arguments that choose one, and all that the program does.
+//! The bench as a library: each command over a reader, a writer and files, the arguments that choose one, and all that the program does.
 //!
 //! `node_run`, `scenario_run`, `threads_run` and `audit_run` are the commands `node`, `run`, `threads` and `audit`. `options` says what
 //! the arguments of the program choose. `bench` does what the program `hsr_bench` does, whose `main` is in hsr_bench_main.
@@ -14,7 +14,7 @@ mod performing;
 pub use benching::bench;
 pub use hsr_cli::{OptionFault, options};
 pub use hsr_commands::{
-    Asked, Fault, Form, NodeOptions, Scope, Showing, Status, TableChoice, TableSize, TimeUnit,
-    TranscriptFault, audit_run, node_run, scenario_run, threads_run,
+    Asked, AuditShowing, Fault, Form, NodeOptions, Scope, Showing, Status, TableChoice, TableSize,
+    TimeUnit, TranscriptFault, audit_run, node_run, scenario_run, threads_run,
 };
-pub use hsr_options::Options;
+pub use hsr_options::{NodeRole, Options};

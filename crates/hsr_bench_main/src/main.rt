@@ -1,8 +1,10 @@
-//! The bench's program: its arguments, its standard streams and its memory, handed over to `bench`.
+//! The bench's program: its arguments, its standard streams, its files and its memory, handed over to `bench`.
 #![tactic(auto)]
 
 use hsr_bench::bench;
+use hsr_files::HostDisk;
 use hsr_text::arguments;
+use std::fs::Files;
 use std::io::{BufWriter, ErrorKind, Write};
 use std::marker::Sync;
 use std::process::ExitCode;
@@ -12,7 +14,7 @@ use std::thread::Threads;
 use std::{env, io};
 
 /// Does what the arguments ask for, over the standard streams.
-fn run<H: AllocGlobal + Env + Input + Print + Threads + Wait + Sync, E: Write>(
+fn run<H: AllocGlobal + Env + Files + Input + Print + Threads + Wait + Sync, E: Write>(
     rt: &H,
     errors: &mut E,
 ) -> io::Result<ExitCode> {
@@ -23,12 +25,14 @@ fn run<H: AllocGlobal + Env + Input + Print + Threads + Wait + Sync, E: Write>(
     };
     let mut reader = rt.reader();
     let mut writer = BufWriter::new(rt.alloc(), io::writer(rt))?;
+    let mut disk = HostDisk { rt };
     let code = bench(
         rt,
         rt.alloc(),
         words.as_slice(),
         &mut reader,
         &mut writer,
+        &mut disk,
         errors,
     )?;
     Ok(ExitCode::from(code))

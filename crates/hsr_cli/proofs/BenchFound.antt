@@ -9,6 +9,9 @@ use Rattle.hsr_text.proofs.Units.{unit_again}
 use Rattle.hsr_text.specs.Moments.{unit_of, unit_word}
 use Rattle.hsr_text.specs.declared.time_unit.TimeUnit.{TimeUnit}
 use Rattle.hsr_table_size.specs.Sizes.{table_of}
+use Rattle.hsr_options.proofs.Roles.{role_again}
+use Rattle.hsr_options.specs.Roles.{node_role_of, node_role_word}
+use Rattle.hsr_options.specs.declared.role.NodeRole.{NodeRole}
 use Rattle.hsr_options.specs.declared.chosen.NodeOptions.{NodeOptions}
 use Rattle.hsr_options.specs.declared.chosen.Showing.{Showing}
 use Rattle.hsr_options.specs.declared.chosen.Form.{Form}
@@ -30,7 +33,7 @@ form_same f g Transcript e h = sym (e (codes "transcript")) ∙ h
 form_same f g (Report asked) e h = (sym (e (codes "transcript")) ∙ h.0, asked_same f g asked e h.1)
 
 showing_same : (f g : Text → Option Text) (showing : Showing) → ((id : Text) → f id ≡ g id) → IsShowing f showing → IsShowing g showing
-showing_same f g showing e h = (sym (e (codes "network")) ∙ h.0, form_same f g showing.form e h.1)
+showing_same f g showing e h = (sym (e (codes "network")) ∙ h.0, form_same f g showing.form e h.1, sym (e (codes "names")) ∙ h.2)
 
 table_same : (f g : Text → Option Text) (table : TableSize) → ((id : Text) → f id ≡ g id) → IsTable f table → IsTable g table
 table_same f g table e h = (h.0, sym (e (codes "table")) ∙ h.1, h.2)
@@ -41,12 +44,20 @@ choice_same f g Told e h = sym (e (codes "table")) ∙ h
 
 pub chosen_same : (name : Text) (f g : Text → Option Text) (o : Options) → ((id : Text) → f id ≡ g id) → Chosen name f o → Chosen name g o
 chosen_same name f g (Node node) e h =
-    (h.0, ((h.1.0.0, sym (e (codes "mac")) ∙ h.1.0.1, h.1.0.2), sym (e (codes "mode")) ∙ h.1.1, table_same f g node.table e h.1.2, sym (e (codes "unit")) ∙ h.1.3))
-chosen_same name f g (Run table showing opens explains) e h =
-    (h.0, table_same f g table e h.1, showing_same f g showing e h.2, sym (e (codes "open")) ∙ h.3, sym (e (codes "explain")) ∙ h.4)
-chosen_same name f g (Threads table showing explains) e h = (h.0, table_same f g table e h.1, showing_same f g showing e h.2, sym (e (codes "explain")) ∙ h.3)
-chosen_same name f g (Audit table scope asked explains) e h =
-    (h.0, choice_same f g table e h.1, sym (e (codes "network")) ∙ h.2, asked_same f g asked e h.3, sym (e (codes "explain")) ∙ h.4)
+    (h.0, (sym (e (codes "role")) ∙ h.1.0, (h.1.1.0, sym (e (codes "mac")) ∙ h.1.1.1, h.1.1.2), sym (e (codes "mode")) ∙ h.1.2, table_same f g node.table e h.1.3, sym (e (codes "unit")) ∙ h.1.4))
+chosen_same name f g (Run table showing folder opens explains) e h =
+    (h.0, table_same f g table e h.1, showing_same f g showing e h.2, sym (e (codes "csv")) ∙ h.3, sym (e (codes "open")) ∙ h.4, sym (e (codes "explain")) ∙ h.5)
+chosen_same name f g (Threads table showing folder explains) e h =
+    (h.0, table_same f g table e h.1, showing_same f g showing e h.2, sym (e (codes "csv")) ∙ h.3, sym (e (codes "explain")) ∙ h.4)
+chosen_same name f g (Audit table scope asked scenario folder explains) e h = (
+  h.0,
+  choice_same f g table e h.1,
+  sym (e (codes "network")) ∙ h.2,
+  asked_same f g asked e h.3,
+  sym (e (codes "names")) ∙ h.4,
+  sym (e (codes "csv")) ∙ h.5,
+  sym (e (codes "explain")) ∙ h.6,
+)
 
 -- without a flag for the transcript nothing is to be written
 pub no_form : (found : Text → Option Text) → ((b : Bool) → found (codes "transcript") ≢ Some (flag_text b)) → (form : Form) → ¬ IsForm found form
@@ -68,10 +79,10 @@ says (w ∷ ws) app o h is chosen = (app, is, chosen)
 -- ---- what is refused
 
 pub is_simple_so : (app : App) → IsBench app → is_simple app ≡ true
-is_simple_so app is = ap is_simple is.8
+is_simple_so app is = ap is_simple is.10
 
 pub is_free : (app : App) → IsBench app → is_simple_and_free app ≡ true
-is_free app is = ap is_simple_and_free is.8
+is_free app is = ap is_simple_and_free is.10
 
 pub taken : (words : List Text) (app : App) → 0 < length words → IsBench app → fault_of app words ≡ [] → IsTaken words
 taken [] app h is none = tt
@@ -86,7 +97,7 @@ pub silent : (words : List Text) (app : App) (text : Text) → 0 < length words 
 silent [] app text h is none nothing said = absurd (omega arith)
 silent (w ∷ ws) app text h is none nothing said = (app, is, inr (none, nothing, said))
 
--- ---- a mode, a size of tables and a unit, by their words
+-- ---- a kind of node, a mode, a size of tables and a unit, by their words
 
 word_found : {A : Type 0} (word : A → Text) (r : Option A) (w : Text) (found : Option Text) → IfSome r (λ a. w ≡ word a) → found ≡ Some w → IfSome r (λ a. found ≡ Some (word a))
 word_found word None w found h is = tt
@@ -99,6 +110,12 @@ word_unread word said again None w found e is = λ a h.
     let same : w ≡ word a = cc in
     let none = e ∙ ap said same ∙ again a in
     cc
+
+pub role_found : (r : Option NodeRole) (w : Text) (found : Option Text) → IfSome r (λ k. w ≡ node_role_word k) → found ≡ Some w → IfSome r (λ k. found ≡ Some (node_role_word k))
+role_found = word_found node_role_word
+
+pub role_unread : (r : Option NodeRole) (w : Text) (found : Option Text) → r ≡ node_role_of w → found ≡ Some w → IfNone r ((k : NodeRole) → found ≢ Some (node_role_word k))
+role_unread = word_unread node_role_word node_role_of role_again
 
 mode_again : (m : Mode) → mode_of (mode_word m) ≡ Some m
 mode_again H = refl
@@ -134,22 +151,22 @@ none_so (Some x) P h = tt
 
 -- where no size is chosen, no command that has one is
 pub no_node : (found : Text → Option Text) → ((t : TableSize) → ¬ IsTable found t) → (node : NodeOptions) → ¬ IsNode found node
-no_node found none node h = none node.table h.2
+no_node found none node h = none node.table h.3
 
 pub no_run : (name : Text) (found : Text → Option Text) → name ≡ codes "run" → ((t : TableSize) → ¬ IsTable found t) → (o : Options) → ¬ Chosen name found o
-no_run name found is none (Node node) h = none node.table h.1.2
-no_run name found is none (Run table showing opens explains) h = none table h.1
-no_run name found is none (Threads table showing explains) h = none table h.1
-no_run name found is none (Audit table scope asked explains) h =
+no_run name found is none (Node node) h = none node.table h.1.3
+no_run name found is none (Run table showing folder opens explains) h = none table h.1
+no_run name found is none (Threads table showing folder explains) h = none table h.1
+no_run name found is none (Audit table scope asked scenario folder explains) h =
     let one : length name ≡ 3 = ap length is in
     let other : length name ≡ 5 = ap length h.0 in
     absurd (omega (arith, one, other))
 
 pub no_threads : (name : Text) (found : Text → Option Text) → name ≡ codes "threads" → ((t : TableSize) → ¬ IsTable found t) → (o : Options) → ¬ Chosen name found o
-no_threads name found is none (Node node) h = none node.table h.1.2
-no_threads name found is none (Run table showing opens explains) h = none table h.1
-no_threads name found is none (Threads table showing explains) h = none table h.1
-no_threads name found is none (Audit table scope asked explains) h =
+no_threads name found is none (Node node) h = none node.table h.1.3
+no_threads name found is none (Run table showing folder opens explains) h = none table h.1
+no_threads name found is none (Threads table showing folder explains) h = none table h.1
+no_threads name found is none (Audit table scope asked scenario folder explains) h =
     let one : length name ≡ 7 = ap length is in
     let other : length name ≡ 5 = ap length h.0 in
     absurd (omega (arith, one, other))

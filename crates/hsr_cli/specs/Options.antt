@@ -1,5 +1,5 @@
 -- What the arguments of hsr_bench say: the values that clap's walk of this command finds.
-use Rattle.std.specs.Prelude.{◌≡◌, ◌≢◌, ◌⊎◌, ⊤, ℕ, Bool, true, false, List, [], ◌∷◌, map, Option, Some, None, Ok, codes}
+use Rattle.std.specs.Prelude.{◌≡◌, ◌≢◌, ◌⊎◌, ⊤, ℕ, Bool, true, false, List, [], ◌∷◌, map, Option, Some, None, option_map, Ok, codes}
 use Rattle.std.specs.Borrow.{Bor}
 use Rattle.clap.specs.Words.{App, Row, Rule, Text, new_app, new_rule, with_rule, with_subcommand, subcommand_of, first_of, fault_of}
 use Rattle.clap.specs.declared.builder.ArgAction.TheVariants.{SetTrue}
@@ -12,7 +12,9 @@ use Rattle.hsr_text.specs.declared.time_unit.TimeUnit.TheVariants.{Milliseconds,
 use Rattle.hsr_table_size.specs.Sizes.{table_of, table_word, table_words}
 use Rattle.hsr_table_size.specs.declared.size.TableSize.{TableSize}
 use Rattle.hsr_table_size.specs.declared.size.TableSize.TheVariants.{Large}
+use Rattle.hsr_options.specs.Roles.{node_role_word}
 use Rattle.hsr_options.specs.declared.chosen.NodeOptions.{NodeOptions}
+use Rattle.hsr_options.specs.declared.role.NodeRole.TheVariants.{Danh, RedBox, QuadBox}
 use Rattle.hsr_options.specs.declared.chosen.Showing.{Showing}
 use Rattle.hsr_options.specs.declared.chosen.Form.{Form}
 use Rattle.hsr_options.specs.declared.chosen.Form.TheVariants.{Transcript, Report}
@@ -30,7 +32,10 @@ use Rattle.hsr_options.specs.declared.chosen.Options.TheVariants.{Node, Run, Thr
 abbrev pub Listed : Type 0
 Listed = Bor (List (Bor (List ℕ)))
 
--- the words of the modes, of the sizes of tables, of what an audit chooses of these, and of the units
+-- the words of the kinds of node, of the modes, of the sizes of tables, of what an audit chooses of these, and of the units
+abbrev pub ListsRoles : Listed → Type 0
+ListsRoles roles = map (λ s. s.now) roles.now ≡ node_role_word Danh ∷ node_role_word RedBox ∷ node_role_word QuadBox ∷ []
+
 abbrev pub ListsModes : Listed → Type 0
 ListsModes modes = map (λ s. s.now) modes.now ≡ mode_word H ∷ mode_word N ∷ mode_word U ∷ []
 
@@ -42,6 +47,10 @@ ListsChoices choices = map (λ s. s.now) choices.now ≡ codes "auto" ∷ table_
 
 abbrev pub ListsUnits : Listed → Type 0
 ListsUnits units = map (λ s. s.now) units.now ≡ unit_word Milliseconds ∷ unit_word Microseconds ∷ []
+
+-- `--role`, one of some names, with its default
+abbrev pub role_rule : Listed → Rule
+role_rule roles = record (new_rule (codes "role")) { long = Some (codes "role"); defaults = node_role_word Danh ∷ []; parser = Some (Names roles) }
 
 -- `--mac`, with its default
 abbrev pub mac_rule : Rule
@@ -63,6 +72,10 @@ unit_rule units = record (new_rule (codes "unit")) { long = Some (codes "unit");
 abbrev pub flag_rule : Text → Rule
 flag_rule name = record (new_rule name) { long = Some name; action = Some SetTrue }
 
+-- an option that takes a word, for which its help has one name
+abbrev pub word_rule : Text → Rule
+word_rule name = record (new_rule name) { long = Some name; value_names = 1 }
+
 -- with the flags for the parts of a report
 abbrev pub with_asked : App → App
 with_asked app =
@@ -73,27 +86,33 @@ with_asked app =
 abbrev pub with_told : App → App
 with_told app = with_rule (with_rule (with_asked app) (flag_rule (codes "network"))) (flag_rule (codes "explain"))
 
-abbrev pub node_app : Listed → Listed → Listed → App
-node_app modes tables units =
-    with_rule (with_rule (with_rule (with_rule (new_app (codes "node")) mac_rule) (mode_rule modes)) (table_rule tables)) (unit_rule units)
+abbrev pub node_app : Listed → Listed → Listed → Listed → App
+node_app roles modes tables units =
+    with_rule (with_rule (with_rule (with_rule (with_rule (new_app (codes "node")) (role_rule roles)) mac_rule) (mode_rule modes)) (table_rule tables)) (unit_rule units)
 
--- a command that plays a scenario
+-- with that for the folder of a run's tables
+abbrev pub with_folder : App → App
+with_folder app = with_rule app (word_rule (codes "csv"))
+
+-- a command that plays a scenario, of which it knows the names
 abbrev pub playing_app : Text → Listed → App
-playing_app name tables = with_told (with_rule (with_rule (new_app name) (table_rule tables)) (flag_rule (codes "transcript")))
+playing_app name tables =
+    with_folder (with_rule (with_told (with_rule (with_rule (new_app name) (table_rule tables)) (flag_rule (codes "transcript")))) (flag_rule (codes "names")))
 
 -- that by which a run may be shown that can't be closed
 abbrev pub run_app : Listed → App
 run_app tables = with_rule (playing_app (codes "run") tables) (flag_rule (codes "open"))
 
+-- an audit takes names from a file, since a transcript has none
 abbrev pub audit_app : Listed → App
-audit_app choices = with_told (with_rule (new_app (codes "audit")) (table_rule choices))
+audit_app choices = with_folder (with_rule (with_told (with_rule (new_app (codes "audit")) (table_rule choices))) (word_rule (codes "names")))
 
 abbrev pub top_app : App
 top_app = record { top = record (new_app (codes "hsr_bench")).top { no_binary_name = true; subcommand_required = true; has_version = true }; subs = [] }
 
-abbrev pub bench_app : Listed → Listed → Listed → Listed → App
-bench_app modes tables choices units =
-    with_subcommand (with_subcommand (with_subcommand (with_subcommand top_app (node_app modes tables units).top) (run_app tables).top)
+abbrev pub bench_app : Listed → Listed → Listed → Listed → Listed → App
+bench_app roles modes tables choices units =
+    with_subcommand (with_subcommand (with_subcommand (with_subcommand top_app (node_app roles modes tables units).top) (run_app tables).top)
     (playing_app (codes "threads") tables).top)
     (audit_app choices).top
 
@@ -107,6 +126,10 @@ flag_text false = codes "false"
 abbrev pub IsSet : (Text → Option Text) → Text → Bool → Type 0
 IsSet found name b = found name ≡ Some (flag_text b)
 
+-- a word is given, or none is
+abbrev pub IsGiven : (Text → Option Text) → Text → Option (Bor Text) → Type 0
+IsGiven found name word = found name ≡ option_map (λ w. w.now) word
+
 -- the size of tables is the one that a word chooses
 abbrev pub IsTable : (Text → Option Text) → TableSize → Type 0
 IsTable found table = (w : Text) × (found (codes "table") ≡ Some w) × (table_of w ≡ Some table)
@@ -116,9 +139,10 @@ abbrev pub IsTableChoice : (Text → Option Text) → TableChoice → Type 0
 IsTableChoice found (Given table) = IsTable found table
 IsTableChoice found Told = found (codes "table") ≡ Some (codes "auto")
 
--- a node's options are the values that were found: the address that a text spells, and three names
+-- a node's options are the values that were found: the address that a text spells, and four names
 abbrev pub IsNode : (Text → Option Text) → NodeOptions → Type 0
-IsNode found node = ((t : Text) × (found (codes "mac") ≡ Some t) × (address_of t ≡ Ok node.mac))
+IsNode found node = (found (codes "role") ≡ Some (node_role_word node.role))
+    × ((t : Text) × (found (codes "mac") ≡ Some t) × (address_of t ≡ Ok node.mac))
     × (found (codes "mode") ≡ Some (mode_word node.mode)) × IsTable found node.table
     × (found (codes "unit") ≡ Some (unit_word node.unit))
 
@@ -141,29 +165,33 @@ IsForm found Transcript = IsSet found (codes "transcript") true
 IsForm found (Report asked) = IsSet found (codes "transcript") false × IsAsked found asked
 
 abbrev pub IsShowing : (Text → Option Text) → Showing → Type 0
-IsShowing found showing = IsScope found showing.scope × IsForm found showing.form
+IsShowing found showing = IsScope found showing.scope × IsForm found showing.form × IsSet found (codes "names") showing.names
 
 -- the options are the values of a subcommand, by its name and what it found
 abbrev pub Chosen : Text → (Text → Option Text) → Options → Type 0
 Chosen name found (Node node) = (name ≡ codes "node") × IsNode found node
-Chosen name found (Run table showing opens explains) =
-    (name ≡ codes "run") × IsTable found table × IsShowing found showing × IsSet found (codes "open") opens × IsSet found (codes "explain") explains
-Chosen name found (Threads table showing explains) = (name ≡ codes "threads") × IsTable found table × IsShowing found showing × IsSet found (codes "explain") explains
-Chosen name found (Audit table scope asked explains) =
-    (name ≡ codes "audit") × IsTableChoice found table × IsScope found scope × IsAsked found asked × IsSet found (codes "explain") explains
+Chosen name found (Run table showing folder opens explains) =
+    (name ≡ codes "run") × IsTable found table × IsShowing found showing × IsGiven found (codes "csv") folder × IsSet found (codes "open") opens
+    × IsSet found (codes "explain") explains
+Chosen name found (Threads table showing folder explains) =
+    (name ≡ codes "threads") × IsTable found table × IsShowing found showing × IsGiven found (codes "csv") folder × IsSet found (codes "explain") explains
+Chosen name found (Audit table scope asked scenario folder explains) =
+    (name ≡ codes "audit") × IsTableChoice found table × IsScope found scope × IsAsked found asked × IsGiven found (codes "names") scenario
+    × IsGiven found (codes "csv") folder × IsSet found (codes "explain") explains
 
 abbrev pub ChosenIn : Option (Text × List Row) → Options → Type 0
 ChosenIn None o = ⊥
 ChosenIn (Some found) o = Chosen found.0 (λ id. first_of id found.1) o
 
--- the bench's command, with the names that it takes for modes, tables, what an audit chooses of these, and units
+-- the bench's command, with the names that it takes for kinds of node, modes, tables, what an audit chooses of these, and units
 abbrev pub IsBench : App → Type 0
-IsBench app = (modes : Listed) × (tables : Listed) × (choices : Listed) × (units : Listed) × ListsModes modes × ListsTables tables × ListsChoices choices
-    × ListsUnits units × (app ≡ bench_app modes tables choices units)
+IsBench app = (roles : Listed) × (modes : Listed) × (tables : Listed) × (choices : Listed) × (units : Listed)
+    × ListsRoles roles × ListsModes modes × ListsTables tables × ListsChoices choices × ListsUnits units
+    × (app ≡ bench_app roles modes tables choices units)
 
 -- arguments say these options: none say `node` with its defaults, others what the command finds in them
 abbrev pub Says : List Text → Options → Type 0
-Says [] (Node node) = (node.mac ≡ 2 ∷ 0 ∷ 0 ∷ 0 ∷ 0 ∷ 1 ∷ []) × (node.mode ≡ H) × (node.table ≡ Large) × (node.unit ≡ Milliseconds)
+Says [] (Node node) = (node.role ≡ Danh) × (node.mac ≡ 2 ∷ 0 ∷ 0 ∷ 0 ∷ 0 ∷ 1 ∷ []) × (node.mode ≡ H) × (node.table ≡ Large) × (node.unit ≡ Milliseconds)
 Says [] o = ⊥
 Says (w ∷ ws) o = (app : App) × IsBench app × ChosenIn (subcommand_of app (w ∷ ws)) o
 

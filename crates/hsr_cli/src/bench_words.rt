@@ -5,16 +5,17 @@ ghost use Rattle.hsr_frame.specs.Address.{IsGroup, address_of};
 ghost use Rattle.hsr_frame.specs.Words.{mode_word};
 ghost use Rattle.hsr_text.specs.Moments.{unit_word};
 ghost use Rattle.hsr_table_size.specs.Sizes.{table_words};
+ghost use Rattle.hsr_options.specs.Roles.{node_role_word};
 ghost use Rattle.clap.specs.Words.{Text, app_of, first_value, found_of, kind_of, new_app, rule_of, subcommand_rows_of, with_rule};
 ghost use Rattle.clap.specs.declared.builder.Command.TheViews.{out-Command as fields_of};
 ghost use Rattle.clap.specs.declared.error.kind.ErrorKind.TheVariants.{OutOfMemory};
 ghost use Rattle.hsr_cli.specs.Refusal.{IfUsage};
-ghost use Rattle.hsr_cli.specs.Options.{Chosen, ChosenIn, IsAsked, IsForm, IsNode, IsRefused, IsScope, IsShowing, IsTable, IsTableChoice, IsTaken, Says, SaysNothing, audit_app, bench_app, flag_rule, flag_text, mac_rule, mode_rule, node_app, run_app, table_rule, playing_app, top_app, unit_rule, with_asked, with_told};
+ghost use Rattle.hsr_cli.specs.Options.{Chosen, ChosenIn, IsAsked, IsForm, IsGiven, IsNode, IsRefused, IsScope, IsShowing, IsTable, IsTableChoice, IsTaken, Says, SaysNothing, ListsChoices, ListsModes, ListsRoles, ListsTables, ListsUnits, audit_app, bench_app, flag_rule, flag_text, mac_rule, mode_rule, node_app, role_rule, run_app, table_rule, playing_app, top_app, unit_rule, with_asked, with_folder, with_told, word_rule};
 
 use crate::fault::{OptionFault, refused, usage};
 use clap::{Arg, ArgAction, ArgMatches, Command};
 use hsr_frame::{Mac, Mode, NoMemory};
-use hsr_options::{Asked, Form, NodeOptions, Options, Scope, Showing, TableChoice};
+use hsr_options::{Asked, Form, NodeOptions, NodeRole, Options, Scope, Showing, TableChoice};
 use hsr_table_size::{TableSize, table_words};
 use hsr_text::TimeUnit;
 use hsr_version::VERSION;
@@ -23,20 +24,24 @@ use std::alloc::Global;
 const NODE_LINES: &str = "\
 Each line of standard input, with one space between its words, is one of:
   send <at> <dst> <type> <payload> [<vlan>]   the node sends a frame
-  life <at>                                   the node sends a supervision frame
-  arrive <at> A|B <octets>                    octets come to a ring port
+  life <at> [<station>]                       the node sends a supervision frame, a redbox also about a station
+  arrive <at> <port> <octets>                 octets come to a port
   age <at>                                    the node drops what is expired
-where <at> is a moment in milliseconds, or in microseconds with --unit us, <dst> an address as
+where <at> is a moment in milliseconds, or in microseconds with --unit us, <dst> and <station> addresses as
 02-00-00-00-00-02, <type> and <vlan> (a VLAN tag's control information) four hexadecimal digits, and
-octets are in hexadecimal, - for none.
+octets are in hexadecimal, - for none. A port is A or B, of a redbox also I, its interlink, and of a
+quadbox also C or D, those of its other ring. A quadbox has neither send nor life, address nor mode.
 
-The answers: `sent <number>` or `life <number> <count>` with the octets of both copies; `passed` with the
-egresses up, A, B and the frame that went up; `duplicate`, `returned`, `foreign`, `untagged`,
-`malformed <fault>`; `aged`; `refused <reason>` (1 to the node itself, 2 a reserved type, 3 no step is
-left, 4 over 1500 octets of payload). The last line counts what happened. A bad line ends the run with
-status 1.
+The answers: `sent <number>` or `life <number> <count>`, then by each port the octets that leave there;
+`passed` with the egresses up and ports, then the frame that went up, and of a redbox or quadbox by each
+port the octets that leave there; `duplicate`, `returned`, `foreign`, `local` (from the interlink to a
+station there), `untagged`, `tagged`, `malformed <fault>`; `aged`; `refused <reason>` (1 to the node itself,
+2 a reserved type, 3 no step is left, 4 over 1500 octets of payload, 5 about no known station). A redbox
+sends to a known station without a number: `sent -`. The last line counts what happened. A bad line, also
+one that this kind of node doesn't have, ends the run with status 1.
 
-Example: echo 'send 0 02-00-00-00-00-02 0800 AABB' | hsr_bench node";
+Examples: echo 'send 0 02-00-00-00-00-02 0800 AABB' | hsr_bench node
+          echo 'arrive 0 I 02000000000202000000000A0800AABB' | hsr_bench node --role redbox";
 
 /// How help is asked for.
 const ASK_HELP: &str = "usage: --help";
@@ -105,13 +110,22 @@ With --explain, lines on standard error say what a fault or a doubt means, where
 nodes and ports by their names, moments) and what to do; with --budget also how many entries would be enough. Each begins
 with `explain: `. Neither the report nor the status changes.
 
+With --names each line has the names of the scenario's nodes in place of their numbers, and names an entry by its node, its
+moment and its place in the node's record, and by the stream of its step, if it has one: `mu1@29250us:117/sv1`. A transcript
+stays as it is.
+
+With --csv FOLDER six tables of the run are put into a folder that is there: nodes.csv, links.csv, sends.csv, load.csv,
+latency.csv and doubt.csv, each with a line of column names. They come before the report: where one cannot be put, it is
+`fault: tables`, and no report is written. docs/REFERENCE.md has each column.
+
 With --open a run that cannot be closed (octets were injected, or a copy is still on its way) is shown as it stands: the
-lines of its nodes and links, and `open` as the last line, with status 2. Nothing is audited of it.
+lines of its nodes and links, and `open` as the last line, with status 2. Nothing is audited of it, and it has no tables.
 
 Examples: hsr_bench run < scenario.toml
           hsr_bench run --table small --deliveries --needed --budget < scenario.toml
           hsr_bench run --load --latency < scenario.toml
           hsr_bench run --network --explain < scenario.toml
+          hsr_bench run --names --csv tables < scenario.toml
           hsr_bench run --transcript < scenario.toml | hsr_bench audit";
 
 const THREADS_ABOUT: &str =
@@ -131,13 +145,27 @@ Examples: hsr_bench threads < scenario.toml
 const AUDIT_ENDS: &str = "\
 The transcript is one that `run --transcript` wrote with a table of the same size; with --table auto the size is
 the one that the transcript tells in its second line. It may be of version 1, which tells moments in milliseconds. Each entry is done anew and compared, links and records are checked
-against each other, and the report is that of `run`, with --load, --latency, --deliveries, --needed, --budget, --network
-and --explain too.
+against each other, and the report is that of `run`, with --load, --latency, --deliveries, --needed, --budget, --network,
+--explain and --csv too. A transcript has no names: --names FILE takes those of the scenario from which the run came.
 
 Status 0: every frame came exactly once to each node that it was for. Status 2: the run gives reason to
 doubt that, named in the last line. Status 1: there is no report, and one line on standard error says
 why: `fault: transcript line <n>` (bad, or not what the node answers), `fault: transcript version`,
-`fault: transcript end` (it breaks off), `fault: check <n>` (links and records disagree).";
+`fault: transcript end` (it breaks off), `fault: check <n>` (links and records disagree), `fault: names` (FILE is no
+scenario of the run), `fault: tables` (the folder is not there, or cannot be written).
+
+Example: hsr_bench audit --names scenario.toml --csv tables < run.transcript";
+
+fn role_arg<'a>(alloc: Global, roles: &'a [&'a str]) -> Arg<'a>
+    ensures rule { rule_of result ≡ role_rule roles.entry }
+    ensures own { result.global ≡ false }
+{
+    Arg::new(alloc, "role")
+        .long("role")
+        .help("The kind of node")
+        .value_parser(roles)
+        .default_value(NodeRole::Danh.word())
+}
 
 fn mac_arg<'a>(alloc: Global) -> Arg<'a>
     ensures rule { rule_of result ≡ mac_rule }
@@ -145,7 +173,7 @@ fn mac_arg<'a>(alloc: Global) -> Arg<'a>
 {
     Arg::new(alloc, "mac")
         .long("mac")
-        .help("The node's address, which is no group's")
+        .help("The node's address, which is no group's; a quadbox has none")
         // The 2 says that the address is locally administered (IEEE 802 clause 8).
         .default_value("02-00-00-00-00-01")
 }
@@ -167,6 +195,10 @@ const TABLE_HELP: &str = "Entries of a duplicate table; small is 4, large is 512
 /// How help tells of them where the text may tell the size itself.
 const CHOICE_HELP: &str =
     "Entries of a duplicate table; small is 4, large is 512, auto what the transcript tells";
+
+/// How help tells of the names of an audit.
+const NAMES_HELP: &str =
+    "Has the names of nodes and streams in place of numbers: those of this scenario, of which the run is";
 
 fn table_arg<'a>(alloc: Global, help: &'a str, tables: &'a [&'a str]) -> Arg<'a>
     ensures rule { rule_of result ≡ table_rule tables.entry }
@@ -198,6 +230,16 @@ fn flag_arg<'a>(alloc: Global, name: &'a str, help: &'a str) -> Arg<'a>
         .long(name)
         .help(help)
         .action(ArgAction::SetTrue)
+}
+
+fn word_arg<'a>(alloc: Global, name: &'a str, value: &'a str, help: &'a str) -> Arg<'a>
+    ensures rule { rule_of result ≡ word_rule name.entry.now }
+    ensures own { result.global ≡ false }
+{
+    Arg::new(alloc, name)
+        .long(name)
+        .value_name(value)
+        .help(help)
 }
 
 /// A command, with one more flag.
@@ -247,30 +289,57 @@ fn telling<'a>(alloc: Global, command: Command<'a>) -> Result<Command<'a>, NoMem
     with_flag(alloc, two, "explain", explain)
 }
 
-/// The command `node` with the options for the node's address and mode.
-fn node_placed<'a>(alloc: Global, modes: &'a [&'a str]) -> Result<Command<'a>, NoMemory>
+/// A command, with the option for the folder of a run's tables.
+fn tabling<'a>(alloc: Global, command: Command<'a>) -> Result<Command<'a>, NoMemory>
+    requires own { (fields_of command).has_globals ≡ false }
+    ensures app { IfOk result (λ c. app_of c ≡ with_folder (app_of command.entry)) }
+    ensures own { IfOk result (λ c. (fields_of c).has_globals ≡ false) }
+{
+    let csv =
+        "Writes the run's facts as tables (CSV) into this folder too: nodes.csv, links.csv, ..";
+    Ok(command.arg(word_arg(alloc, "csv", "FOLDER", csv))?)
+}
+
+/// The command `node` with the options for the node's kind and address.
+fn node_named<'a>(alloc: Global, roles: &'a [&'a str]) -> Result<Command<'a>, NoMemory>
     ensures app { IfOk result (λ c. app_of c
-        ≡ with_rule (with_rule (new_app (codes "node")) mac_rule) (mode_rule modes.entry)) }
+        ≡ with_rule (with_rule (new_app (codes "node")) (role_rule roles.entry)) mac_rule) }
     ensures own { IfOk result (λ c. (fields_of c).has_globals ≡ false) }
 {
     let command = Command::new(alloc, "node")
-        .about("Answers lines of standard input as one DANH")
+        .about("Answers lines of standard input as one node: a DANH, a RedBox or a QuadBox")
         .after_help(NODE_LINES)
-        .arg(mac_arg(alloc))?
-        .arg(mode_arg(alloc, modes))?;
+        .arg(role_arg(alloc, roles))?
+        .arg(mac_arg(alloc))?;
+    Ok(command)
+}
+
+/// That command, with the option for the node's mode too.
+fn node_placed<'a>(
+    alloc: Global,
+    roles: &'a [&'a str],
+    modes: &'a [&'a str],
+) -> Result<Command<'a>, NoMemory>
+    ensures app { IfOk result (λ c. app_of c
+        ≡ with_rule (with_rule (with_rule (new_app (codes "node")) (role_rule roles.entry)) mac_rule) (mode_rule modes.entry)) }
+    ensures own { IfOk result (λ c. (fields_of c).has_globals ≡ false) }
+{
+    let command = node_named(alloc, roles)?.arg(mode_arg(alloc, modes))?;
     Ok(command)
 }
 
 fn node_command<'a>(
     alloc: Global,
+    roles: &'a [&'a str],
     modes: &'a [&'a str],
     tables: &'a [&'a str],
     units: &'a [&'a str],
 ) -> Result<Command<'a>, NoMemory>
-    ensures app { IfOk result (λ c. app_of c ≡ node_app modes.entry tables.entry units.entry) }
+    ensures app { IfOk result (λ c. app_of c
+        ≡ node_app roles.entry modes.entry tables.entry units.entry) }
     ensures own { IfOk result (λ c. (fields_of c).has_globals ≡ false) }
 {
-    let command = node_placed(alloc, modes)?
+    let command = node_placed(alloc, roles, modes)?
         .arg(table_arg(alloc, TABLE_HELP, tables))?
         .arg(unit_arg(alloc, units))?;
     Ok(command)
@@ -288,11 +357,13 @@ fn playing_command<'a>(
     ensures own { IfOk result (λ c. (fields_of c).has_globals ≡ false) }
 {
     let transcript = "Writes the run's transcript in place of its report";
+    let names = "Has the names of the scenario's nodes and streams in place of numbers";
     let command = Command::new(alloc, name)
         .about(about)
         .after_help(ends)
         .arg(table_arg(alloc, TABLE_HELP, tables))?;
-    telling(alloc, with_flag(alloc, command, "transcript", transcript)?)
+    let one = telling(alloc, with_flag(alloc, command, "transcript", transcript)?)?;
+    tabling(alloc, with_flag(alloc, one, "names", names)?)
 }
 
 /// The command `run`, which may show a run that can't be closed.
@@ -313,7 +384,9 @@ fn audit_command<'a>(alloc: Global, choices: &'a [&'a str]) -> Result<Command<'a
         .about("Audits the transcript on standard input, and reports whether it certifies delivery")
         .after_help(AUDIT_ENDS)
         .arg(table_arg(alloc, CHOICE_HELP, choices))?;
-    telling(alloc, command)
+    let one = telling(alloc, command)?;
+    let two = one.arg(word_arg(alloc, "names", "FILE", NAMES_HELP))?;
+    tabling(alloc, two)
 }
 
 fn top_command<'a>(alloc: Global) -> Result<Command<'a>, NoMemory>
@@ -331,15 +404,16 @@ fn top_command<'a>(alloc: Global) -> Result<Command<'a>, NoMemory>
 
 fn bench_command<'a>(
     alloc: Global,
+    roles: &'a [&'a str],
     modes: &'a [&'a str],
     tables: &'a [&'a str],
     choices: &'a [&'a str],
     units: &'a [&'a str],
 ) -> Result<Command<'a>, NoMemory>
     ensures { IfOk result (λ c. app_of c
-        ≡ bench_app modes.entry tables.entry choices.entry units.entry) }
+        ≡ bench_app roles.entry modes.entry tables.entry choices.entry units.entry) }
 {
-    let node = node_command(alloc, modes, tables, units)?;
+    let node = node_command(alloc, roles, modes, tables, units)?;
     let run = run_command(alloc, tables)?;
     let threads = playing_command(alloc, "threads", THREADS_ABOUT, THREADS_ENDS, tables)?;
     let audit = audit_command(alloc, choices)?;
@@ -381,6 +455,16 @@ fn mode_of(matches: &ArgMatches<'_>) -> Option<Mode>
         ≢ Some (mode_word m)) }
 {
     Mode::from_word(matches.get_str("mode")?.as_bytes())
+}
+
+#[tactic(auto, using(crate::proofs::BenchFound::role_found, crate::proofs::BenchFound::role_unread))]
+fn role_of(matches: &ArgMatches<'_>) -> Option<NodeRole>
+    ensures found { IfSome result (λ r. first_value (found_of matches.now) (codes "role")
+        ≡ Some (node_role_word r)) }
+    ensures none { IfNone result ((r : _) → first_value (found_of matches.now) (codes "role")
+        ≢ Some (node_role_word r)) }
+{
+    NodeRole::from_word(matches.get_str("role")?.as_bytes())
 }
 
 #[tactic(auto, using(crate::proofs::BenchFound::unit_found, crate::proofs::BenchFound::unit_unread))]
@@ -463,7 +547,8 @@ fn showing_of(matches: &ArgMatches<'_>) -> Option<Showing>
 {
     let scope = scope_of(matches)?;
     let form = form_of(matches)?;
-    Some(Showing { scope, form })
+    let names = flag_of(matches, "names")?;
+    Some(Showing { scope, form, names })
 }
 
 /// The address of `--mac`, if it is one and no group's.
@@ -487,11 +572,13 @@ fn node_options(matches: &ArgMatches<'_>) -> Option<NodeOptions>
     ensures none { IfNone result ((node : NodeOptions)
         → ¬ IsNode (first_value (found_of matches.now)) node) }
 {
+    let role = role_of(matches)?;
     let mode = mode_of(matches)?;
     let table = table_of(matches)?;
     let unit = unit_of(matches)?;
     let mac = mac_of(matches)?;
     Some(NodeOptions {
+        role,
         mac,
         mode,
         table,
@@ -501,7 +588,7 @@ fn node_options(matches: &ArgMatches<'_>) -> Option<NodeOptions>
 
 /// The options of a subcommand.
 #[tactic(auto, using(crate::proofs::BenchFound::no_run, crate::proofs::BenchFound::no_threads))]
-fn options_of(name: &str, matches: &ArgMatches<'_>) -> Option<Options>
+fn options_of<'a>(name: &str, matches: &ArgMatches<'a>) -> Option<Options<'a>>
     ensures found { IfSome result (Chosen name.now (first_value (found_of matches.now))) }
     ensures none { IfNone result ((o : Options)
         → ¬ Chosen name.now (first_value (found_of matches.now)) o) }
@@ -511,11 +598,13 @@ fn options_of(name: &str, matches: &ArgMatches<'_>) -> Option<Options>
         "run" => {
             let table = table_of(matches)?;
             let showing = showing_of(matches)?;
+            let folder = matches.get_str("csv");
             let shows_open = flag_of(matches, "open")?;
             let explains = flag_of(matches, "explain")?;
             Some(Options::Run {
                 table,
                 showing,
+                folder,
                 shows_open,
                 explains,
             })
@@ -523,10 +612,12 @@ fn options_of(name: &str, matches: &ArgMatches<'_>) -> Option<Options>
         "threads" => {
             let table = table_of(matches)?;
             let showing = showing_of(matches)?;
+            let folder = matches.get_str("csv");
             let explains = flag_of(matches, "explain")?;
             Some(Options::Threads {
                 table,
                 showing,
+                folder,
                 explains,
             })
         }
@@ -534,11 +625,15 @@ fn options_of(name: &str, matches: &ArgMatches<'_>) -> Option<Options>
             let table = choice_of(matches)?;
             let scope = scope_of(matches)?;
             let asked = asked_of(matches)?;
+            let scenario = matches.get_str("names");
+            let folder = matches.get_str("csv");
             let explains = flag_of(matches, "explain")?;
             Some(Options::Audit {
                 table,
                 scope,
                 asked,
+                scenario,
+                folder,
                 explains,
             })
         }
@@ -546,15 +641,44 @@ fn options_of(name: &str, matches: &ArgMatches<'_>) -> Option<Options>
     }
 }
 
-/// The words that choose a size of tables for an audit.
-fn choices() -> [&'static str; 18]
-    ensures { map (λ s. s.now) result ≡ codes "auto" ∷ table_words }
+// What is chosen borrows from the words and from these lists alike, so they live as long as the program does.
+/// The words that choose a kind of node.
+fn roles() -> &'static [&'static str]
+    ensures { ListsRoles result }
 {
-    table_words!("auto")
+    &["danh", "redbox", "quadbox"]
+}
+
+/// The words that choose a mode.
+fn modes() -> &'static [&'static str]
+    ensures { ListsModes result }
+{
+    &["H", "N", "U"]
+}
+
+/// The words that choose a size of tables.
+fn tables() -> &'static [&'static str]
+    ensures { ListsTables result }
+{
+    &table_words!()
+}
+
+/// The words that choose a size of tables for an audit.
+fn choices() -> &'static [&'static str]
+    ensures { ListsChoices result }
+{
+    &table_words!("auto")
+}
+
+/// The words that choose a unit of moments.
+fn units() -> &'static [&'static str]
+    ensures { ListsUnits result }
+{
+    &["ms", "us"]
 }
 
 /// What a parse found.
-fn chosen_in(matches: &ArgMatches<'_>) -> Option<Options>
+fn chosen_in<'a>(matches: &ArgMatches<'a>) -> Option<Options<'a>>
     ensures found { IfSome result (ChosenIn (subcommand_rows_of matches.now)) }
     ensures none { IfNone result (SaysNothing (subcommand_rows_of matches.now)) }
 {
@@ -565,7 +689,7 @@ fn chosen_in(matches: &ArgMatches<'_>) -> Option<Options>
 /// What the arguments after the program's name say: with none, `node` and its defaults. A `--mac` that is no address or
 /// a group's is refused by `usage: --mac` and a line that says what it takes, and other arguments by clap's text, which
 /// isn't empty; `Memory` if allocation fails.
-pub fn options<'a>(alloc: Global, words: &'a [&'a str]) -> Result<Options, OptionFault>
+pub fn options<'a>(alloc: Global, words: &'a [&'a str]) -> Result<Options<'a>, OptionFault>
     ensures found { IfOk result (Says (map (λ s. s.now) words.entry.now)) }
     ensures taken { OnOk result (IsTaken (map (λ s. s.now) words.entry.now)) }
     ensures refused { IfErr result (λ f. IfUsage f (IsRefused (map (λ s. s.now) words.entry.now))) }
@@ -574,6 +698,7 @@ pub fn options<'a>(alloc: Global, words: &'a [&'a str]) -> Result<Options, Optio
     // Clap would ask for a subcommand.
     if words.is_empty() {
         return Ok(Options::Node(NodeOptions {
+            role: NodeRole::Danh,
             // The default of `--mac`.
             mac: Mac::new([2, 0, 0, 0, 0, 1]),
             mode: Mode::H,
@@ -581,17 +706,7 @@ pub fn options<'a>(alloc: Global, words: &'a [&'a str]) -> Result<Options, Optio
             unit: TimeUnit::Milliseconds,
         }));
     }
-    let modes = [Mode::H.word(), Mode::N.word(), Mode::U.word()];
-    let tables = TableSize::words();
-    let choices = choices();
-    let units = [TimeUnit::Milliseconds.word(), TimeUnit::Microseconds.word()];
-    let command = bench_command(
-        alloc,
-        modes.as_slice(),
-        tables.as_slice(),
-        choices.as_slice(),
-        units.as_slice(),
-    )?;
+    let command = bench_command(alloc, roles(), modes(), tables(), choices(), units())?;
     match command.try_get_matches_from(words) {
         Ok(matches) => match chosen_in(&matches) {
             Some(options) => Ok(options),

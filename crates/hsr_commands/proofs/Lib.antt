@@ -1,5 +1,6 @@
 pub mod Turns
 mod Said
-mod Telling
+pub mod Telling
 mod Opening
 mod Runs
+mod Putting

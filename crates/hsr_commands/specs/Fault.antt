@@ -10,7 +10,7 @@ use Rattle.hsr_world_steps.specs.Refusal.{drain_word}
 use Rattle.hsr_world_steps.specs.declared.step.DrainFault.{DrainFault}
 use Rattle.hsr_world_steps.specs.declared.step.DrainFault.TheVariants as drain
 use Rattle.hsr_world_steps.specs.declared.step.WorldFault.TheVariants as world
-use Rattle.hsr_commands.specs.declared.fault.Fault.TheVariants.{Line, Scenario, Step, Fine, Transcript, Check, Read, Write, Memory, Thread, Gate}
+use Rattle.hsr_commands.specs.declared.fault.Fault.TheVariants.{Line, Scenario, Step, Fine, Transcript, Check, Names, Tables, Read, Write, Memory, Thread, Gate}
 use Rattle.hsr_commands.specs.declared.fault.Status.{Status}
 use Rattle.hsr_commands.specs.declared.fault.Status.TheVariants.{Certified, Fault as Stopped, Doubt, Open}
 use Rattle.hsr_commands.specs.declared.fault.TranscriptFault.{TranscriptFault}
@@ -35,6 +35,8 @@ fault_line (Step step fault) = codes "fault: step " ++ (decimal step ++ (codes "
 fault_line (Fine step) = codes "fault: step " ++ (decimal step ++ codes " fine")
 fault_line (Transcript fault) = codes "fault: transcript " ++ transcript_text fault
 fault_line (Check disagree) = codes "fault: check " ++ decimal (disagree_code disagree)
+fault_line (Names instead) = codes "fault: names, and --names takes the scenario of the run: hsr_plan writes that of a plan"
+fault_line Tables = codes "fault: tables"
 fault_line Read = codes "fault: read"
 fault_line Write = codes "fault: write"
 fault_line Memory = codes "fault: memory"

@@ -2,6 +2,7 @@ pub mod Fault
 pub mod Output
 pub mod Run
 pub mod Reading
+pub mod Naming
 pub mod Shown
 pub mod Ending
 pub mod ScenarioRun

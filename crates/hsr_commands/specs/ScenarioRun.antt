@@ -10,9 +10,9 @@ use Rattle.hsr_scenario.specs.Meaning.{Meant}
 use Rattle.hsr_commands.specs.Ending.{Ends}
 use Rattle.hsr_ring.specs.Playing.{Halts, Plays}
 use Rattle.hsr_commands.specs.Reading.{Said}
-use Rattle.hsr_report.specs.Found.{IsFound}
-use Rattle.hsr_report.specs.declared.finding.Finding.{Finding}
-use Rattle.hsr_commands.specs.Shown.{IsShown}
+use Rattle.hsr_commands.specs.Naming.{Named}
+use Rattle.hsr_commands.specs.Shown.{IsShownOf, Outputs}
+use Rattle.hsr_commands.specs.declared.shown.ShownRun.{ShownRun}
 use Rattle.hsr_options.specs.declared.chosen.Showing.{Showing}
 use Rattle.hsr_commands.specs.declared.fault.Fault.{Fault}
 use Rattle.hsr_commands.specs.declared.fault.Fault.TheVariants.{Scenario, Step, Check, Memory}
@@ -51,20 +51,19 @@ IsUnclosed capacity w _ = ⊥
 
 -- ---- what was found
 
--- the scenario is played, its world ends and is a finished run, of which this was found; and this is shown of it
-pub record IsReported (capacity : ℕ) (showing : Showing) (said : Said) (found : Finding) (text : List ℕ) : Type 0 where
+-- the scenario is played, its world ends and is a finished run, of which this is shown
+pub record IsReported (capacity : ℕ) (showing : Showing) (folder : Option (List ℕ)) (said : Said) (named : Named) (shown : ShownRun) : Type 0 where
   pub world : World
   pub played : IsPlayed capacity said world
   pub ended : IsEnded world
-  pub is_found : IsFound showing.scope (finished_of capacity world).run found
-  pub is_shown : IsShown showing.scope showing.form (finished_of capacity world) found text
+  pub is_shown : IsShownOf showing named folder (finished_of capacity world) shown
 
 -- there is nothing to report: no scenario, or a step that is refused, or a world that can't be closed
 abbrev pub IsUnreported : ℕ → Said → Fault → Type 0
 IsUnreported capacity said (Check disagree) = (w : World) × IsPlayed capacity said w × StaysOpen capacity w disagree
 IsUnreported capacity said fault = IsUnplayed capacity said fault
 
--- How `run` ends, and what it wrote: the transcript or the report of the run; or nothing, since there is none, or reading or
--- memory failed. Of a failed write no more is said than that there was something to write.
-abbrev pub ScenarioEnds : ℕ → Showing → Said → Option (List ℕ) → Option (List ℕ) → Status → Type 0
-ScenarioEnds capacity showing said = Ends (IsReported capacity showing said) (IsUnreported capacity said)
+-- How `run` ends, and what it wrote: the transcript or the report of the run, and its tables where a folder is given; or nothing, since
+-- there is none, or reading or memory failed. Of a failed write no more is said than that there was something to write.
+abbrev pub ScenarioEnds : ℕ → Showing → Option (List ℕ) → Said → Named → Outputs → Outputs → Status → Type 0
+ScenarioEnds capacity showing folder said named = Ends (IsReported capacity showing folder said named) (IsUnreported capacity said) folder

@@ -16,9 +16,9 @@ use Rattle.hsr_world_steps.specs.declared.step.WorldFault.TheVariants as world
 use Rattle.hsr_commands.specs.Ending.{Ends}
 use Rattle.hsr_commands.specs.Fault.{step_fault}
 use Rattle.hsr_commands.specs.Reading.{Said}
-use Rattle.hsr_report.specs.Found.{IsFound}
-use Rattle.hsr_report.specs.declared.finding.Finding.{Finding}
-use Rattle.hsr_commands.specs.Shown.{IsShown}
+use Rattle.hsr_commands.specs.Naming.{Named}
+use Rattle.hsr_commands.specs.Shown.{IsShownOf, Outputs}
+use Rattle.hsr_commands.specs.declared.shown.ShownRun.{ShownRun}
 use Rattle.hsr_options.specs.declared.chosen.Showing.{Showing}
 use Rattle.hsr_commands.specs.declared.fault.Fault.{Fault}
 use Rattle.hsr_commands.specs.declared.fault.Fault.TheVariants.{Scenario, Step, Fine, Check, Memory, Thread, Gate}
@@ -60,14 +60,14 @@ pub record IsRan (capacity : ℕ) (said : Said) (f : Finished) : Type 0 where
   pub is_run : IsRunOf capacity meant f
   pub brought : NoneIsAlien f.run
 
--- this was found of such a run, and this is shown of it
-pub record IsRunShown (capacity : ℕ) (showing : Showing) (said : Said) (found : Finding) (text : List ℕ) : Type 0 where
+-- this is shown of such a run
+pub record IsRunShown (capacity : ℕ) (showing : Showing) (folder : Option (List ℕ)) (said : Said) (named : Named) (shown : ShownRun) : Type 0 where
   pub finished : Finished
   pub is_run : IsRan capacity said finished
-  pub is_found : IsFound showing.scope finished.run found
-  pub is_shown : IsShown showing.scope showing.form finished found text
+  pub is_shown : IsShownOf showing named folder finished shown
 
--- How `threads` ends, and what it wrote: the transcript or the report of some finished run of the scenario; or nothing, since there
--- is none, or reading or memory failed. Of a failed write no more is said than that there was something to write.
-abbrev pub ThreadsEnds : ℕ → Showing → Said → Option (List ℕ) → Option (List ℕ) → Status → Type 0
-ThreadsEnds capacity showing said = Ends (IsRunShown capacity showing said) (IsUnrun capacity said)
+-- How `threads` ends, and what it wrote: the transcript or the report of some finished run of the scenario, and its tables where a folder
+-- is given; or nothing, since there is none, or reading or memory failed. Of a failed write no more is said than that there was something
+-- to write.
+abbrev pub ThreadsEnds : ℕ → Showing → Option (List ℕ) → Said → Named → Outputs → Outputs → Status → Type 0
+ThreadsEnds capacity showing folder said named = Ends (IsRunShown capacity showing folder said named) (IsUnrun capacity said) folder

@@ -2,19 +2,19 @@
 ghost use Rattle.std.specs.Prelude.{◌≡◌, ◌≢◌, ◌<◌, ◌≤◌, ◌^◌, ℕ, IfErr, IfSome, List, OnOk, Option, length};
 ghost use Rattle.hsr_text.specs.Lines.{ReadsFront, lines_of};
 ghost use Rattle.hsr_duptable.specs.Table.{IsTableSize};
-ghost use Rattle.hsr_danh.specs.Machine.{new_machine};
-ghost use Rattle.hsr_commands.specs.Output.{Ended, output};
-ghost use Rattle.hsr_table_size.specs.Sizes.{capacity_of};
+ghost use Rattle.hsr_node.specs.Place.{HasOwnAddress};
+ghost use Rattle.hsr_node.specs.Step.{new_node};
+ghost use Rattle.hsr_commands.specs.Output.{Ended, chosen_output, place_of};
 ghost use Rattle.hsr_commands.specs.Run.{Finished, Ran, Served, Turned};
 ghost use Rattle.hsr_commands.specs.declared.fault.Fault.TheVariants.{Read as ReadFailed};
 
 use crate::fault::{Fault, Status};
 use arrayvec::ArrayVec;
-use hsr_danh::Danh;
-use hsr_node_text::{answer_request, put_counters, read_request};
-use hsr_options::NodeOptions;
+use hsr_node::{Node, Place};
+use hsr_node_text::{Setting, answer_line, put_counters};
+use hsr_options::{NodeOptions, NodeRole};
 use hsr_table_size::at_size;
-use hsr_text::{Front, TimeUnit, WordFault, granted_reads, next_line};
+use hsr_text::{Front, WordFault, granted_reads, next_line};
 use std::alloc::Global;
 use std::io::{BufRead, BufReader, Read, Write};
 
@@ -32,26 +32,24 @@ struct Room {
 /// Answers one line.
 fn serve<W: Write, const C: usize>(
     alloc: Global,
-    unit: TimeUnit,
-    danh: &mut Danh<C>,
+    setting: &Setting,
+    node: &mut Node<C>,
     number: u64,
     line: &[u8],
     writer: &mut W,
     text: &mut Vec<u8>,
 ) -> Result<(), Fault>
-    ensures { Served unit C danh.old danh.new number line.now (W.contents writer.old)
+    ensures { Served C setting.now node.old node.new number line.now (W.contents writer.old)
         (W.contents writer.new) result }
 {
-    let request = match read_request(alloc, unit, line) {
-        Ok(request) => request,
-        Err(WordFault::Bad) => return Err(Fault::Line(number)),
-        Err(WordFault::Memory) => return Err(Fault::Memory),
-    };
-    // Formed whole before it is written, so that a failed allocation leaves no half answer.
-    answer_request(danh, &request, text)?;
-    match writer.write_all(text.as_slice()) {
-        Ok(()) => Ok(()),
-        Err(_) => Err(Fault::Write),
+    match answer_line(alloc, setting, node, line, text) {
+        // Formed whole before it is written, so that a failed allocation leaves no half answer.
+        Ok(()) => match writer.write_all(text.as_slice()) {
+            Ok(()) => Ok(()),
+            Err(_) => Err(Fault::Write),
+        },
+        Err(WordFault::Bad) => Err(Fault::Line(number)),
+        Err(WordFault::Memory) => Err(Fault::Memory),
     }
 }
 
@@ -59,8 +57,8 @@ fn serve<W: Write, const C: usize>(
 #[tactic(auto, using(crate::proofs::Turns::turned_line, crate::proofs::Turns::turned_line_err, crate::proofs::Turns::turned_rest, crate::proofs::Turns::turned_rest_err, crate::proofs::Turns::turned_none, crate::proofs::Turns::turned_long, crate::proofs::Turns::served_told))]
 fn answer_front<W: Write, const C: usize>(
     alloc: Global,
-    unit: TimeUnit,
-    danh: &mut Danh<C>,
+    setting: &Setting,
+    node: &mut Node<C>,
     number: u64,
     front: Front,
     writer: &mut W,
@@ -68,14 +66,14 @@ fn answer_front<W: Write, const C: usize>(
 ) -> Result<bool, Fault>
     ensures turned { (left rest : Option (List ℕ))
         → ReadsFront LINE_LIMIT left rest room.old.line.items front
-        → Turned unit left rest (W.contents writer.old) (W.contents writer.new) C danh.old danh.new number result }
+        → Turned C setting.now left rest (W.contents writer.old) (W.contents writer.new) node.old node.new number result }
     ensures told { IfErr result (λ f. f ≢ ReadFailed) }
 {
     let line = &room.line;
     let text = &mut room.text;
     match front {
         Front::TooLong => Err(Fault::Line(number)),
-        Front::Line => match serve(alloc, unit, danh, number, line.as_slice(), writer, text) {
+        Front::Line => match serve(alloc, setting, node, number, line.as_slice(), writer, text) {
             Ok(()) => Ok(true),
             Err(fault) => Err(fault),
         },
@@ -84,7 +82,7 @@ fn answer_front<W: Write, const C: usize>(
             if line.is_empty() {
                 return Ok(false);
             }
-            match serve(alloc, unit, danh, number, line.as_slice(), writer, text) {
+            match serve(alloc, setting, node, number, line.as_slice(), writer, text) {
                 Ok(()) => Ok(false),
                 Err(fault) => Err(fault),
             }
@@ -95,84 +93,108 @@ fn answer_front<W: Write, const C: usize>(
 /// Reads and answers the next line, and tells whether more may follow.
 fn turn<R: BufRead, W: Write, const C: usize>(
     alloc: Global,
-    unit: TimeUnit,
-    danh: &mut Danh<C>,
+    setting: &Setting,
+    node: &mut Node<C>,
     number: u64,
     reader: &mut R,
     reads: &mut u64,
     writer: &mut W,
     room: &mut Room,
 ) -> Result<bool, Fault>
-    ensures turned { Turned unit (R.remaining reader.old) (R.remaining reader.new)
-        (W.contents writer.old) (W.contents writer.new) C danh.old danh.new number result }
+    ensures turned { Turned C setting.now (R.remaining reader.old) (R.remaining reader.new)
+        (W.contents writer.old) (W.contents writer.new) node.old node.new number result }
     ensures fewer { OnOk result (reads.new < reads.old) }
     ensures bounded { reads.new ≤ reads.old }
 {
     let front = next_line(reader, reads, &mut room.line)?;
-    answer_front(alloc, unit, danh, number, front, writer, room)
+    answer_front(alloc, setting, node, number, front, writer, room)
 }
 
 /// Writes the line at the end.
 fn finish<W: Write, const C: usize>(
-    danh: &Danh<C>,
+    node: &Node<C>,
     writer: &mut W,
     text: &mut Vec<u8>,
 ) -> Result<(), Fault>
-    ensures { Finished danh.now (W.contents writer.old) (W.contents writer.new) result }
+    ensures { Finished C node.now (W.contents writer.old) (W.contents writer.new) result }
 {
     text.clear();
-    put_counters(text, &danh.counters())?;
+    put_counters(text, &node.counters())?;
     match writer.write_all(text.as_slice()) {
         Ok(()) => Ok(()),
         Err(_) => Err(Fault::Write),
     }
 }
 
-/// Reads all lines with the reads that are granted, and answers each.
+/// Reads all lines with the reads that are granted, and answers each by a node that has done nothing.
 #[tactic(auto, using(crate::proofs::Turns::way_begins, crate::proofs::Turns::way_on, crate::proofs::Turns::way_fails, crate::proofs::Turns::way_ends))]
+fn answer_lines<R: BufRead, W: Write, const C: usize>(
+    alloc: Global,
+    reader: &mut R,
+    writer: &mut W,
+    reads: &mut u64,
+    setting: &Setting,
+    node: &mut Node<C>,
+    room: &mut Room,
+) -> Result<(), Fault>
+    requires new { node.old ≡ new_node C setting.now.place }
+    requires granted { reads.old ≡ 2 ^ 40 }
+    ensures { Ran C setting.now (R.remaining reader.old) (W.contents writer.old)
+        (W.contents writer.new) result }
+{
+    let mut number = 1u64;
+    // It ends, since reads are counted.
+    loop {
+        match turn(alloc, setting, node, number, reader, reads, writer, room) {
+            Ok(true) => number += 1,
+            Ok(false) => return finish(node, writer, &mut room.text),
+            Err(fault) => return Err(fault),
+        }
+    }
+}
+
+/// Makes the node, and answers all lines with the reads that are granted.
 fn run<R: BufRead, W: Write, const C: usize>(
     alloc: Global,
     reader: &mut R,
     writer: &mut W,
     reads: &mut u64,
-    chosen: &NodeOptions,
+    setting: &Setting,
 ) -> Result<(), Fault>
+    requires station { HasOwnAddress setting.now.place }
     requires entries { IsTableSize C }
     requires granted { reads.old ≡ 2 ^ 40 }
-    ensures { Ran chosen.now.unit (R.remaining reader.old) (W.contents writer.old)
-        (W.contents writer.new) C (new_machine chosen.now.mac chosen.now.mode) result }
+    ensures { Ran C setting.now (R.remaining reader.old) (W.contents writer.old)
+        (W.contents writer.new) result }
 {
-    let mut danh = match Danh::<C>::new(alloc, chosen.mac, chosen.mode) {
-        Ok(danh) => danh,
+    let mut node = match Node::<C>::new(alloc, &setting.place) {
+        Ok(node) => node,
         Err(_) => return Err(Fault::Memory),
     };
     let mut room = Room {
         line: ArrayVec::new(),
         text: Vec::new(alloc),
     };
-    let mut number = 1u64;
-    // It ends, since reads are counted.
-    loop {
-        match turn(
-            alloc,
-            chosen.unit,
-            &mut danh,
-            number,
-            reader,
-            reads,
-            writer,
-            &mut room,
-        ) {
-            Ok(true) => number += 1,
-            Ok(false) => return finish(&danh, writer, &mut room.text),
-            Err(fault) => return Err(fault),
-        }
+    // The loop is lent both: a return of a function that owns a node drops each kind of node in a proof of its own.
+    answer_lines(alloc, reader, writer, reads, setting, &mut node, &mut room)
+}
+
+/// The kind of node that is chosen, with its address.
+fn place_of(chosen: &NodeOptions) -> Place
+    ensures value { result ≡ place_of chosen.now }
+    ensures station { HasOwnAddress result }
+{
+    let (mac, mode) = (chosen.mac, chosen.mode);
+    match chosen.role {
+        NodeRole::Danh => Place::Danh { mac, mode },
+        NodeRole::RedBox => Place::RedBox { mac, mode },
+        NodeRole::QuadBox => Place::QuadBox,
     }
 }
 
-/// Answers the lines of a text by a DANH with the chosen address, mode and size of tables; the lines tell moments in the chosen
-/// unit. A line that is bad or has over 4096 octets ends the run as `Fault::Line`, counted from 1; what was answered stands. `Fault::Read` where
-/// the reader fails or takes over 2^40 reads, `Fault::Write`, `Fault::Memory`.
+/// Answers the lines of a text by a node of the chosen kind, address, mode and size of tables; the lines tell moments in the chosen
+/// unit. A line that is bad, that is none of this kind of node, or that has over 4096 octets ends the run as `Fault::Line`, counted from 1;
+/// what was answered stands. `Fault::Read` where the reader fails or takes over 2^40 reads, `Fault::Write`, `Fault::Memory`.
 pub fn node_run<R: Read, W: Write>(
     alloc: Global,
     reader: &mut R,
@@ -180,14 +202,18 @@ pub fn node_run<R: Read, W: Write>(
     chosen: &NodeOptions,
 ) -> Status
     ensures { IfSome (R.remaining reader.old) (λ text.
-        Ended (W.contents writer.old) (W.contents writer.new) (output chosen.now.unit (capacity_of chosen.now.table) (new_machine chosen.now.mac chosen.now.mode) 1 (lines_of text)) result) }
+        Ended (W.contents writer.old) (W.contents writer.new) (chosen_output chosen.now (lines_of text)) result) }
 {
     let Ok(mut lines) = BufReader::new(alloc, reader) else {
         return Status::Fault(Fault::Memory);
     };
+    let setting = Setting {
+        place: place_of(chosen),
+        unit: chosen.unit,
+    };
     // A reader that never ends is given up after 2^40 reads, as one that fails (RULES, Fault lines).
     let mut reads = granted_reads();
-    let ran = at_size!(chosen.table => run[_, W](alloc, &mut lines, writer, &mut reads, chosen));
+    let ran = at_size!(chosen.table => run[_, W](alloc, &mut lines, writer, &mut reads, &setting));
     match ran {
         Ok(()) => Status::Certified,
         Err(fault) => Status::Fault(fault),

@@ -1,10 +1,12 @@
 //! How a run ended.
-ghost use Rattle.std.specs.Prelude.{◌≡◌, Some};
+ghost use Rattle.std.specs.Prelude.{◌≡◌, ◌⊎◌, Some};
 ghost use Rattle.hsr_commands.specs.Fault.{check_fault, code_of, fault_line, step_fault, transcript_text};
-ghost use Rattle.hsr_commands.specs.declared.fault.Fault.TheVariants.{Memory, Read as ReadFailed};
+ghost use Rattle.hsr_commands.specs.declared.fault.Fault.TheVariants.{Memory, Read as ReadFailed, Tables};
 
+use hsr_files::PutFault;
 use hsr_finished_run::{CheckFault, Disagree};
 use hsr_frame::NoMemory;
+use hsr_given::Unnamed;
 use hsr_scenario::ScenarioFault;
 use hsr_text::ReaderFault;
 use hsr_world_steps::{DrainFault, WorldFault};
@@ -39,6 +41,10 @@ pub enum Fault {
     Transcript(TranscriptFault),
     /// Records, links and receipts disagree at the end.
     Check(Disagree),
+    /// What was given for names is no scenario of the run; what it is.
+    Names(Unnamed),
+    /// A table can't be put into the folder that is given for it.
+    Tables,
     /// The reader failed.
     Read,
     /// The writer failed.
@@ -88,6 +94,16 @@ impl Fault {
         }
     }
 
+    /// A table that wasn't put.
+    pub(crate) fn of_put(fault: PutFault) -> Fault
+        ensures { (result ≡ Tables) ⊎ (result ≡ Memory) }
+    {
+        match fault {
+            PutFault::Unwritten => Fault::Tables,
+            PutFault::Memory => Fault::Memory,
+        }
+    }
+
     /// A closing that was refused.
     pub(crate) fn of_check(fault: CheckFault) -> Fault
         ensures { result ≡ check_fault fault }
@@ -127,6 +143,11 @@ impl fmt::Display for Fault {
                 let code = disagree.code();
                 write!(f, "fault: check {code}")
             }
+            Fault::Names(_) => write!(
+                f,
+                "fault: names, and --names takes the scenario of the run: hsr_plan writes that of a plan"
+            ),
+            Fault::Tables => write!(f, "fault: tables"),
             Fault::Read => write!(f, "fault: read"),
             Fault::Write => write!(f, "fault: write"),
             Fault::Memory => write!(f, "fault: memory"),

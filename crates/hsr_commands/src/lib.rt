@@ -5,8 +5,9 @@
 //! - `engine`: the run of `node` over a reader and a writer
 //! - `text`: a text that is read whole
 //! - `reading`: scenarios that are read
+//! - `naming`: what nodes, sends and ports are called
 //! - `notes`: what is said of how a run ended, beyond its agreed lines
-//! - `shown`: what is written of a finished run: its transcript or its report
+//! - `shown`: what is written of a finished run: its transcript or its report, and its tables
 //! - `left`: what there is of a run that can't be closed
 //! - `scenario`: scenarios that are run, and shown by transcript or report
 //! - `threads`: scenarios that run in threads, and are shown by transcript or report
@@ -17,6 +18,7 @@ mod audit;
 mod engine;
 mod fault;
 mod left;
+mod naming;
 mod notes;
 mod reading;
 mod scenario;
@@ -24,7 +26,7 @@ mod shown;
 mod text;
 mod threads;
 
-pub use audit::audit_run;
+pub use audit::{AuditShowing, audit_run};
 pub use engine::node_run;
 pub use fault::{Fault, Status, TranscriptFault};
 pub use hsr_explanation::{Explanation, put_explanation};

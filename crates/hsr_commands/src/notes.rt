@@ -2,10 +2,11 @@
 use crate::fault::{Fault, TranscriptFault};
 use hsr_explanation::{
     Explanation, explain_budget, explain_check, explain_finding, explain_fine, explain_scenario,
-    explain_step, explain_transcript, explain_unsettled, names_in,
+    explain_step, explain_unsettled, explain_words, names_in,
 };
 use hsr_finished_run::Closed;
 use hsr_frame::NoMemory;
+use hsr_given::Unnamed;
 use hsr_report::Finding;
 use hsr_ring::World;
 use hsr_world_steps::DrainFault;
@@ -16,6 +17,18 @@ use std::alloc::Global;
 pub struct Notes {
     pub explains: bool,
     pub explanation: Explanation,
+}
+
+/// What it means that a table can't be put into its folder.
+const TABLES_WORDS: &str =
+    "the folder of --csv isn't there, or a file can't be written in it: make the folder first, or give another";
+
+/// What it means that names aren't there, by what was given in place of a scenario.
+fn explain_names(alloc: Global, instead: Unnamed) -> Result<Explanation, NoMemory> {
+    match format!(in alloc; "{instead}") {
+        Ok(words) => explain_words(alloc, words.as_str()),
+        Err(_) => Err(NoMemory),
+    }
 }
 
 /// What it means that a text isn't read as a transcript.
@@ -54,7 +67,9 @@ fn explained(alloc: Global, octets: &[u8], fault: &Fault) -> Result<Explanation,
         Fault::Step { step, fault } => explain_step(alloc, octets, *step, fault),
         Fault::Fine { step } => explain_fine(alloc, octets, *step),
         Fault::Check(disagree) => explain_check(alloc, *disagree),
-        Fault::Transcript(fault) => explain_transcript(alloc, words_of(*fault)),
+        Fault::Transcript(fault) => explain_words(alloc, words_of(*fault)),
+        Fault::Names(instead) => explain_names(alloc, *instead),
+        Fault::Tables => explain_words(alloc, TABLES_WORDS),
         Fault::Line(_) | Fault::Read | Fault::Write | Fault::Memory | Fault::Thread | Fault::Gate =>
             Ok(Explanation::new(alloc)),
     }
@@ -78,11 +93,17 @@ impl Notes {
     }
 
     /// Notes why a text led to no finished run, unless that is noted.
-    pub(crate) fn of_fault(&mut self, alloc: Global, octets: &[u8], fault: &Fault) {
+    pub fn of_fault(&mut self, alloc: Global, octets: &[u8], fault: &Fault) {
         // What was noted closer to the fault says more.
         if self.explains && self.explanation.lines.is_empty() {
             self.note(explained(alloc, octets, fault));
         }
+    }
+
+    /// Notes why a run that was audited isn't shown, in place of what was found of it.
+    pub(crate) fn of_unshown(&mut self, alloc: Global, fault: &Fault) {
+        self.explanation.lines.clear();
+        self.of_fault(alloc, &[], fault);
     }
 
     /// Notes where copies circle, if that is why an order wasn't done.

@@ -1,8 +1,10 @@
 //! Scenarios that are run, and shown by transcript or report.
 ghost use Rattle.std.specs.Prelude.{◌≡◌, ◌≢◌, IfErr, IfOk, IfSome, true};
 ghost use Rattle.hsr_duptable.specs.Table.{IsTableSize};
+ghost use Rattle.hsr_commands.specs.Naming.{names_in};
 ghost use Rattle.hsr_commands.specs.Reading.{scenario_of};
-ghost use Rattle.hsr_commands.specs.OpenRun.{IsDeliveredOpen, IsLeftBy, IsOpenOf, IsPlayedOn, IsShownBy, IsShownOfRun, IsUnshown, RunEnds};
+ghost use Rattle.hsr_commands.specs.Shown.{outputs, text_if};
+ghost use Rattle.hsr_commands.specs.OpenRun.{IsLeftBy, IsOpenOf, IsOpenShown, IsPlayedOn, IsShownBy, IsShownOfRun, IsUnshown, IsWrittenOpen, RunEnds};
 ghost use Rattle.hsr_commands.specs.ScenarioRun.{IsUnplayed};
 ghost use Rattle.hsr_table_size.specs.Sizes.{capacity_of};
 ghost use Rattle.hsr_commands.specs.declared.fault.Fault.TheVariants.{Memory, Read as ReadFailed};
@@ -10,14 +12,15 @@ ghost use Rattle.hsr_commands.specs.declared.fault.Status.TheVariants.{Fault as 
 
 use crate::fault::{Fault, Status};
 use crate::left::open_text;
+use crate::naming::node_naming;
 use crate::notes::Notes;
 use crate::reading::scenario_of;
-use crate::shown::{asks_budget, audit_and_show, deliver};
+use crate::shown::{ShownRun, asks_budget, audit_and_show, deliver};
 use crate::text::read_text;
+use hsr_files::Disk;
 use hsr_finished_run::{CheckFault, Closed};
 use hsr_node::Place;
 use hsr_options::Showing;
-use hsr_report::Finding;
 use hsr_ring::{World, play};
 use hsr_scenario::TEXT_LIMIT;
 use hsr_table_size::{TableSize, at_size};
@@ -32,10 +35,10 @@ struct Reached<const C: usize> {
     topology: Topology,
 }
 
-/// What there is of a run: what was found of it, and its text; or the text of one that can't be closed.
+/// What there is of a run: what is shown of it; or the text of one that can't be closed.
 #[derive(Debug, Drop)]
 enum Shown {
-    Closed { finding: Finding, text: Vec<u8> },
+    Closed { shown: ShownRun },
     Open { text: Vec<u8> },
 }
 
@@ -76,38 +79,60 @@ fn finished<const C: usize>(
     octets: &[u8],
     closed: &Closed<C>,
     showing: Showing,
+    folder: Option<&str>,
     notes: &mut Notes,
 ) -> Result<Shown, Fault>
-    ensures ok { IfOk result (IsShownOfRun showing closed.now) }
+    ensures ok { IfOk result (IsShownOfRun showing (text_if folder.entry) (names_in octets.now)
+        closed.now) }
     ensures err { IfErr result (λ f. f ≡ Memory) }
 {
-    match audit_and_show(alloc, closed, showing) {
-        Ok((finding, text)) => {
-            notes.of_run(alloc, octets, closed, finding, asks_budget(showing));
-            Ok(Shown::Closed { finding, text })
+    match audit_and_show(alloc, octets, closed, showing, folder) {
+        Ok(shown) => {
+            notes.of_run(alloc, octets, closed, shown.finding, asks_budget(showing));
+            Ok(Shown::Closed { shown })
         }
         Err(fault) => Err(fault),
+    }
+}
+
+/// What there is of a world of these nodes that can't be closed; with the names that octets have, where names are asked for.
+fn shown_open<const C: usize>(
+    alloc: Global,
+    octets: &[u8],
+    world: &World<C>,
+    places: &[Place],
+    names: bool,
+) -> Result<Shown, Fault>
+    ensures ok { IfOk result (IsOpenShown C names (names_in octets.now) places.now world.now) }
+    ensures err { IfErr result (λ f. f ≡ Memory) }
+{
+    let naming = match node_naming(alloc, octets, names) {
+        Ok(naming) => naming,
+        Err(fault) => return Err(fault),
+    };
+    match open_text(alloc, &naming, world, places) {
+        Ok(text) => Ok(Shown::Open { text }),
+        Err(_) => Err(Fault::Memory),
     }
 }
 
 /// What there is of a world of these nodes that can't be closed for this reason, where that is to be shown.
 fn left_open<const C: usize>(
     alloc: Global,
+    octets: &[u8],
     world: &World<C>,
     places: &[Place],
+    names: bool,
     shows_open: bool,
     fault: CheckFault,
 ) -> Result<Shown, Fault>
     ensures ok { IfOk result (λ shown. (shows_open ≡ true)
-        × IsOpenOf C places.now world.now fault shown) }
+        × IsOpenOf C names (names_in octets.now) places.now world.now fault shown) }
     ensures err { IfErr result (IsLeftBy shows_open fault) }
 {
     match fault {
         // A failed allocation is no open run.
-        CheckFault::Disagree(_) if shows_open => match open_text(alloc, world, places) {
-            Ok(text) => Ok(Shown::Open { text }),
-            Err(_) => Err(Fault::Memory),
-        },
+        CheckFault::Disagree(_) if shows_open => shown_open(alloc, octets, world, places, names),
         fault => Err(Fault::of_check(fault)),
     }
 }
@@ -118,11 +143,13 @@ fn reported<const C: usize>(
     alloc: Global,
     octets: &[u8],
     showing: Showing,
+    folder: Option<&str>,
     shows_open: bool,
     notes: &mut Notes,
 ) -> Result<Shown, Fault>
     requires entries { IsTableSize C }
-    ensures ok { IfOk result (IsShownBy C shows_open showing (scenario_of octets.now)) }
+    ensures ok { IfOk result (IsShownBy C shows_open showing (text_if folder.entry)
+        (scenario_of octets.now) (names_in octets.now)) }
     ensures err { IfErr result (IsUnshown C shows_open (scenario_of octets.now)) }
 {
     let reached = match played::<C>(alloc, octets, notes) {
@@ -130,10 +157,18 @@ fn reported<const C: usize>(
         Err(fault) => return Err(fault),
     };
     match reached.world.close() {
-        Ok(closed) => finished(alloc, octets, &closed, showing, notes),
+        Ok(closed) => finished(alloc, octets, &closed, showing, folder, notes),
         Err((world, fault)) => {
             let places = reached.topology.places();
-            left_open(alloc, &world, places, shows_open, fault)
+            left_open(
+                alloc,
+                octets,
+                &world,
+                places,
+                showing.names,
+                shows_open,
+                fault,
+            )
         }
     }
 }
@@ -144,19 +179,20 @@ fn reported_with(
     octets: &[u8],
     table: TableSize,
     showing: Showing,
+    folder: Option<&str>,
     shows_open: bool,
     notes: &mut Notes,
 ) -> Result<Shown, Fault>
     ensures ok { IfOk result (IsShownBy (capacity_of table) shows_open showing
-        (scenario_of octets.now)) }
+        (text_if folder.entry) (scenario_of octets.now) (names_in octets.now)) }
     ensures err { IfErr result (IsUnshown (capacity_of table) shows_open (scenario_of octets.now)) }
 {
-    at_size!(table => reported[](alloc, octets, showing, shows_open, notes))
+    at_size!(table => reported[](alloc, octets, showing, folder, shows_open, notes))
 }
 
 /// Writes what there is of a run that can't be closed. It doesn't flush.
 fn deliver_open<W: Write>(writer: &mut W, text: &[u8]) -> Status
-    ensures { IsDeliveredOpen (W.contents writer.old) (W.contents writer.new) text.now result }
+    ensures { IsWrittenOpen (W.contents writer.old) (W.contents writer.new) text.now result }
 {
     // What was written is flushed in one place, `bench`.
     match writer.write_all(text) {
@@ -167,21 +203,25 @@ fn deliver_open<W: Write>(writer: &mut W, text: &[u8]) -> Status
 
 /// Runs the scenario that octets mean, and writes what is shown of it.
 #[tactic(auto, using(crate::proofs::Opening::closed_told, crate::proofs::Opening::open_told, crate::proofs::Opening::unshown_told, crate::proofs::Opening::unshown_known, crate::proofs::Opening::open_known, crate::proofs::Telling::delivered_told))]
-fn run_and_deliver<W: Write>(
+fn run_and_deliver<W: Write, D: Disk>(
     alloc: Global,
     octets: &[u8],
     writer: &mut W,
+    disk: &mut D,
     table: TableSize,
     showing: Showing,
+    folder: Option<&str>,
     shows_open: bool,
     notes: &mut Notes,
 ) -> Status
-    ensures shown { RunEnds (capacity_of table) shows_open showing (scenario_of octets.now)
-        (W.contents writer.old) (W.contents writer.new) result }
+    ensures shown { RunEnds (capacity_of table) shows_open showing (text_if folder.entry)
+        (scenario_of octets.now) (names_in octets.now)
+        (outputs (W.contents writer.old) (D.puts disk.old))
+        (outputs (W.contents writer.new) (D.puts disk.new)) result }
     ensures told { result ≢ Stopped ReadFailed }
 {
-    match reported_with(alloc, octets, table, showing, shows_open, notes) {
-        Ok(Shown::Closed { finding, text }) => deliver(writer, finding, text.as_slice()),
+    match reported_with(alloc, octets, table, showing, folder, shows_open, notes) {
+        Ok(Shown::Closed { shown }) => deliver(alloc, writer, disk, folder, &shown, notes),
         Ok(Shown::Open { text }) => deliver_open(writer, text.as_slice()),
         Err(fault) => {
             notes.of_fault(alloc, octets, &fault);
@@ -193,30 +233,36 @@ fn run_and_deliver<W: Write>(
 /// Runs the scenario that a text means, with tables of the chosen size, and writes its transcript, where that is asked for,
 /// or its report: the nodes with their counters, the links with what became of their copies, the parts that are asked for, of a
 /// network what it tells of ports on rings without a link and of sends that no node is for, and what the chosen audit found, which
-/// the status tells in both cases. The scenario has at most 16 MiB, and a drain takes at most 1,000,000 steps. The text is formed
-/// whole before it is written, so that after a fault nothing is, but for `Fault::Write`. `Fault::Read` where the reader fails or
-/// takes over 2^40 reads, `Fault::Memory` if allocation fails. A run that can't be closed is `Fault::Check`, or, where `shows_open` asks
-/// for it, `Status::Open`: then the lines of its nodes and links are written as they stand. Where it is asked for, `notes` then has what a
-/// fault or a doubt means.
-pub fn scenario_run<R: Read, W: Write>(
+/// the status tells in both cases. Where a folder is given, the run's tables are put there, before the text is written: of `Fault::Tables`,
+/// where one can't be put, the text isn't written, and the tables before it are there. The scenario has at most 16 MiB, and a drain takes
+/// at most 1,000,000 steps. Text and tables are formed whole before they are written, so that after other faults nothing is, but for
+/// `Fault::Write`. `Fault::Read` where the reader fails or takes over 2^40 reads, `Fault::Memory` if allocation fails. A run that can't be
+/// closed is `Fault::Check`, or, where `shows_open` asks for it, `Status::Open`: then the lines of its nodes and links are written as they
+/// stand, and it has no tables. Where it is asked for, `notes` then has what a fault or a doubt means.
+pub fn scenario_run<R: Read, W: Write, D: Disk>(
     alloc: Global,
     reader: &mut R,
     writer: &mut W,
+    disk: &mut D,
     table: TableSize,
     showing: Showing,
+    folder: Option<&str>,
     shows_open: bool,
     notes: &mut Notes,
 ) -> Status
     ensures { IfSome (R.remaining reader.old) (λ octets.
-        RunEnds (capacity_of table) shows_open showing (scenario_of octets) (W.contents writer.old) (W.contents writer.new) result) }
+        RunEnds (capacity_of table) shows_open showing (text_if folder.entry) (scenario_of octets) (names_in octets)
+        (outputs (W.contents writer.old) (D.puts disk.old)) (outputs (W.contents writer.new) (D.puts disk.new)) result) }
 {
     match read_text(alloc, reader, TEXT_LIMIT) {
         Ok(octets) => run_and_deliver(
             alloc,
             octets.as_slice(),
             writer,
+            disk,
             table,
             showing,
+            folder,
             shows_open,
             notes,
         ),

@@ -1,7 +1,9 @@
 //! Scenarios that run in threads, and are shown by transcript or report.
 ghost use Rattle.std.specs.Prelude.{◌≡◌, ◌≢◌, IfErr, IfOk, IfSome};
 ghost use Rattle.hsr_duptable.specs.Table.{IsTableSize};
+ghost use Rattle.hsr_commands.specs.Naming.{names_in};
 ghost use Rattle.hsr_commands.specs.Reading.{scenario_of};
+ghost use Rattle.hsr_commands.specs.Shown.{outputs, text_if};
 ghost use Rattle.hsr_table_size.specs.Sizes.{capacity_of};
 ghost use Rattle.hsr_commands.specs.ThreadsRun.{IsRan, IsRunShown, IsUnrun, ThreadsEnds, run_fault};
 ghost use Rattle.hsr_commands.specs.declared.fault.Fault.TheVariants.{Read as ReadFailed};
@@ -10,11 +12,11 @@ ghost use Rattle.hsr_commands.specs.declared.fault.Status.TheVariants.{Fault as 
 use crate::fault::{Fault, Status};
 use crate::notes::Notes;
 use crate::reading::scenario_of;
-use crate::shown::{asks_budget, audit_and_show, deliver};
+use crate::shown::{ShownRun, asks_budget, audit_and_show, deliver};
 use crate::text::read_text;
+use hsr_files::Disk;
 use hsr_finished_run::Closed;
 use hsr_options::Showing;
-use hsr_report::Finding;
 use hsr_runner::{OpenGate, RunFault, run_threads};
 use hsr_scenario::TEXT_LIMIT;
 use hsr_table_size::{TableSize, at_size};
@@ -66,20 +68,22 @@ fn run_shown<H: Threads + Wait + Sync, const C: usize>(
     alloc: Global,
     octets: &[u8],
     showing: Showing,
+    folder: Option<&str>,
     notes: &mut Notes,
-) -> Result<(Finding, Vec<u8>), Fault>
+) -> Result<ShownRun, Fault>
     requires entries { IsTableSize C }
-    ensures ok { IfOk result (λ r. IsRunShown C showing (scenario_of octets.now) r.0 r.1.items) }
+    ensures ok { IfOk result (IsRunShown C showing (text_if folder.entry) (scenario_of octets.now)
+        (names_in octets.now)) }
     ensures err { IfErr result (λ f. IsUnrun C (scenario_of octets.now) f) }
 {
     let closed = match ran::<H, C>(rt, alloc, octets) {
         Ok(closed) => closed,
         Err(fault) => return Err(fault),
     };
-    match audit_and_show(alloc, &closed, showing) {
-        Ok((finding, text)) => {
-            notes.of_run(alloc, octets, &closed, finding, asks_budget(showing));
-            Ok((finding, text))
+    match audit_and_show(alloc, octets, &closed, showing, folder) {
+        Ok(shown) => {
+            notes.of_run(alloc, octets, &closed, shown.finding, asks_budget(showing));
+            Ok(shown)
         }
         Err(fault) => Err(fault),
     }
@@ -92,32 +96,37 @@ fn run_shown_with<H: Threads + Wait + Sync>(
     octets: &[u8],
     table: TableSize,
     showing: Showing,
+    folder: Option<&str>,
     notes: &mut Notes,
-) -> Result<(Finding, Vec<u8>), Fault>
-    ensures ok { IfOk result (λ r. IsRunShown (capacity_of table) showing
-        (scenario_of octets.now) r.0 r.1.items) }
+) -> Result<ShownRun, Fault>
+    ensures ok { IfOk result (IsRunShown (capacity_of table) showing (text_if folder.entry)
+        (scenario_of octets.now) (names_in octets.now)) }
     ensures err { IfErr result (λ f. IsUnrun (capacity_of table) (scenario_of octets.now) f) }
 {
-    at_size!(table => run_shown[H](rt, alloc, octets, showing, notes))
+    at_size!(table => run_shown[H](rt, alloc, octets, showing, folder, notes))
 }
 
 /// Runs the scenario that octets mean, and writes what is shown of the run.
-#[tactic(auto, using(crate::proofs::Telling::unrun_told, crate::proofs::Telling::delivered_told))]
-fn run_and_deliver<H: Threads + Wait + Sync, W: Write>(
+#[tactic(auto, using(crate::proofs::Telling::told_run, crate::proofs::Telling::told_unrun, crate::proofs::Telling::unrun_told, crate::proofs::Telling::delivered_told))]
+fn run_and_deliver<H: Threads + Wait + Sync, W: Write, D: Disk>(
     rt: &H,
     alloc: Global,
     octets: &[u8],
     writer: &mut W,
+    disk: &mut D,
     table: TableSize,
     showing: Showing,
+    folder: Option<&str>,
     notes: &mut Notes,
 ) -> Status
-    ensures shown { ThreadsEnds (capacity_of table) showing (scenario_of octets.now)
-        (W.contents writer.old) (W.contents writer.new) result }
+    ensures shown { ThreadsEnds (capacity_of table) showing (text_if folder.entry)
+        (scenario_of octets.now) (names_in octets.now)
+        (outputs (W.contents writer.old) (D.puts disk.old))
+        (outputs (W.contents writer.new) (D.puts disk.new)) result }
     ensures told { result ≢ Stopped ReadFailed }
 {
-    match run_shown_with(rt, alloc, octets, table, showing, notes) {
-        Ok((finding, text)) => deliver(writer, finding, text.as_slice()),
+    match run_shown_with(rt, alloc, octets, table, showing, folder, notes) {
+        Ok(shown) => deliver(alloc, writer, disk, folder, &shown, notes),
         Err(fault) => {
             notes.of_fault(alloc, octets, &fault);
             Status::Fault(fault)
@@ -126,28 +135,41 @@ fn run_and_deliver<H: Threads + Wait + Sync, W: Write>(
 }
 
 /// Runs the scenario that a text means in threads, with tables of the chosen size, and writes the transcript of that run, where it
-/// is asked for, or its report, as `scenario_run` does; the status tells what the audit of that run found. Each linked port has a
+/// is asked for, or its report, and its tables, as `scenario_run` does; the status tells what the audit of that run found. Each linked port has a
 /// thread that takes, judges and puts, and each node one that ages it after a step `clock`, so what comes first is left to them.
 ///
-/// The scenario has at most 16 MiB. The text is formed whole before it is written, so that after a fault nothing is, but for
-/// `Fault::Write`. `Fault::Fine` where the scenario has a step `put`, `take` or `judge`, of which the first is named; nothing is started
+/// The scenario has at most 16 MiB. Text and tables are formed whole before they are written, so that after a fault nothing is, but for
+/// `Fault::Write` and `Fault::Tables`. `Fault::Fine` where the scenario has a step `put`, `take` or `judge`, of which the first is named; nothing is started
 /// then. `Fault::Thread` where a thread can't be started, `Fault::Read` where the reader fails or takes over 2^40 reads,
 /// `Fault::Memory` if allocation fails. No gate shuts, so `Fault::Gate` doesn't come. It waits for its threads. Where it is
 /// asked for, `notes` then has what a fault or a doubt means.
-pub fn threads_run<H: Threads + Wait + Sync, R: Read, W: Write>(
+pub fn threads_run<H: Threads + Wait + Sync, R: Read, W: Write, D: Disk>(
     rt: &H,
     alloc: Global,
     reader: &mut R,
     writer: &mut W,
+    disk: &mut D,
     table: TableSize,
     showing: Showing,
+    folder: Option<&str>,
     notes: &mut Notes,
 ) -> Status
     ensures { IfSome (R.remaining reader.old) (λ octets.
-        ThreadsEnds (capacity_of table) showing (scenario_of octets) (W.contents writer.old) (W.contents writer.new) result) }
+        ThreadsEnds (capacity_of table) showing (text_if folder.entry) (scenario_of octets) (names_in octets)
+        (outputs (W.contents writer.old) (D.puts disk.old)) (outputs (W.contents writer.new) (D.puts disk.new)) result) }
 {
     match read_text(alloc, reader, TEXT_LIMIT) {
-        Ok(octets) => run_and_deliver(rt, alloc, octets.as_slice(), writer, table, showing, notes),
+        Ok(octets) => run_and_deliver(
+            rt,
+            alloc,
+            octets.as_slice(),
+            writer,
+            disk,
+            table,
+            showing,
+            folder,
+            notes,
+        ),
         Err(fault) => Status::Fault(fault),
     }
 }

@@ -1,3 +1,2 @@
 pub mod Delivered
 pub mod Counted
-pub mod Lines

@@ -9,14 +9,12 @@
 //! - `losses`: the lost copies of each send
 //! - `law`: what holds of deliveries where a ring delivered each frame exactly once
 //! - `delivering`: the deliveries of a run, its call
-//! - `lines`: their lines in a report
 #![tactic(auto)]
 
 mod delivering;
 mod delivery;
 mod due;
 mod law;
-mod lines;
 mod loss;
 mod losses;
 mod tally;
@@ -25,7 +23,6 @@ pub use delivering::deliveries;
 pub use delivery::{Deliveries, Delivery};
 pub use due::is_due;
 pub use law::once_is_complete;
-pub use lines::put_deliveries;
 pub use loss::Loss;
 pub use losses::Losses;
 pub use tally::{Tally, taken_up};

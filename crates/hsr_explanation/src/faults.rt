@@ -113,8 +113,8 @@ pub fn explain_check(alloc: Global, disagree: Disagree) -> Result<Explanation, N
     Ok(explanation)
 }
 
-/// Why a text isn't read as a transcript, in these words. `NoMemory` if allocation fails.
-pub fn explain_transcript(alloc: Global, words: &str) -> Result<Explanation, NoMemory> {
+/// What a fault means, in these words. `NoMemory` if allocation fails.
+pub fn explain_words(alloc: Global, words: &str) -> Result<Explanation, NoMemory> {
     let mut explanation = Explanation::new(alloc);
     explanation.add(words_of(alloc, words)?)?;
     Ok(explanation)

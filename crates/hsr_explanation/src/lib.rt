@@ -25,8 +25,7 @@ mod naming;
 pub use budgets::explain_budget;
 pub use doubts::explain_finding;
 pub use faults::{
-    explain_check, explain_fine, explain_scenario, explain_step, explain_transcript,
-    explain_unsettled,
+    explain_check, explain_fine, explain_scenario, explain_step, explain_unsettled, explain_words,
 };
 pub use lines::{Explanation, put_explanation};
 pub use naming::names_in;

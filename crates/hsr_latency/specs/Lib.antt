@@ -1,3 +1,2 @@
 pub mod Delays
 pub mod Latencies
-pub mod Lines

@@ -7,7 +7,6 @@
 //! - `greatest`: the one that took longest
 //! - `latency`: the latency of a node
 //! - `latencies`: the latencies of a run, its call
-//! - `lines`: their lines in a report
 #![tactic(auto)]
 
 mod delay;
@@ -15,9 +14,7 @@ mod delaying;
 mod greatest;
 mod latencies;
 mod latency;
-mod lines;
 
 pub use delay::Delay;
 pub use latencies::latency_of;
 pub use latency::{Latency, NodeLatency};
-pub use lines::put_latency;

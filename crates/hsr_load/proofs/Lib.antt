@@ -1,3 +1,5 @@
 pub mod Summing
 pub mod Worst
 pub mod Listing
+mod Padding
+mod Most

@@ -3,4 +3,3 @@ pub mod Carried
 pub mod Windows
 pub mod Sums
 pub mod Loads
-pub mod Lines

@@ -2,9 +2,9 @@
 --     span        how long copies went over the run's channels
 --     IsLoad      the load of a channel
 --     AreLoads    those of channels, in their order; a channel that carried nothing has none
---     most        the first that has the greatest worst millisecond
-use Rattle.std.specs.Prelude.{ℕ, ◌-◌, ◌*◌, ◌/◌, ◌≡◌, nat_lt, max, min, if◌then◌else◌, List, [], ◌∷◌, fold, length, Option, Some, None}
-use Rattle.std.specs.List.{cons_option, sum_by}
+--     most        the first than whose worst millisecond none is greater
+use Rattle.std.specs.Prelude.{ℕ, ◌-◌, ◌*◌, ◌/◌, ◌≡◌, nat_le, Bool, max, min, List, [], ◌∷◌, find, fold, length, Option, Some, None}
+use Rattle.std.specs.List.{cons_option, list_all, sum_by}
 use Rattle.hsr_run_laws.specs.Run.{Run}
 use Rattle.hsr_load.specs.Carried.{Channel, channels}
 use Rattle.hsr_load.specs.Windows.{IsWorst, octets_of}
@@ -70,10 +70,10 @@ AreLoadsOf run loads = AreLoads (span run) (channels run) loads
 
 -- ---- the most
 
--- the one that has the greater worst millisecond, of equals the first
-abbrev pub more : Option ChannelLoad → ChannelLoad → Option ChannelLoad
-more None load = Some load
-more (Some most) load = if nat_lt most.worst load.worst then Some load else Some most
+-- no channel has a greater worst millisecond than this one
+abbrev pub is_most : List ChannelLoad → ChannelLoad → Bool
+is_most loads load = list_all (λ (other : ChannelLoad). nat_le other.worst load.worst) loads
 
+-- of these the first
 abbrev pub most : List ChannelLoad → Option ChannelLoad
-most loads = fold more None loads
+most loads = find (is_most loads) loads

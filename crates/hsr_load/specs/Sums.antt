@@ -2,6 +2,7 @@
 use Rattle.std.specs.Prelude.{ℕ, ◌+◌, ◌-◌, ◌<◌, ◌≤◌, ◌≡◌, nat_le, nat_lt, if◌then◌else◌, List, length, take, slice_index, slice_index_or, Option, Some, None}
 use Rattle.std.specs.List.{sum_by}
 use Rattle.hsr_load.specs.Windows.{octets_from, octets_of}
+use Rattle.hsr_load.specs.declared.load.ChannelLoad.{ChannelLoad}
 use Rattle.hsr_load.specs.declared.transit.Transit.{Transit}
 use Rattle.hsr_load.specs.declared.window.Window.{Window}
 
@@ -35,3 +36,10 @@ pub record IsWorstAmong (ts : List Transit) (n : ℕ) (w : Window) : Type 0 wher
 abbrev pub IsWorstBelow : List Transit → ℕ → Option Window → Type 0
 IsWorstBelow ts n None = n ≡ 0
 IsWorstBelow ts n (Some w) = IsWorstAmong ts n w
+
+-- ---- the most, as it is found
+
+-- the one that has the greater worst millisecond, of equals the first
+abbrev pub more : Option ChannelLoad → ChannelLoad → Option ChannelLoad
+more None load = Some load
+more (Some most) load = if nat_lt most.worst load.worst then Some load else Some most

@@ -9,11 +9,9 @@
 //! - `window`: the worst millisecond of a channel
 //! - `load`: the load of a channel
 //! - `loading`: the loads of a run, its call
-//! - `lines`: their lines in a report
 #![tactic(auto)]
 
 mod carrying;
-mod lines;
 mod load;
 mod loading;
 mod span;
@@ -21,6 +19,5 @@ mod transit;
 mod window;
 mod wire;
 
-pub use lines::put_load;
 pub use load::{ChannelLoad, Load};
 pub use loading::load_of;

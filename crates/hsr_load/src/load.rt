@@ -1,6 +1,7 @@
 //! The load of a channel, and those of a run.
 ghost use Rattle.std.specs.Prelude.{◌≡◌};
-ghost use Rattle.hsr_load.specs.Loads.{more, most};
+ghost use Rattle.hsr_load.specs.Loads.{most};
+ghost use Rattle.hsr_load.specs.Sums.{more};
 
 use hsr_topology::End;
 

@@ -1,5 +1,5 @@
 //! How many octets of a link a frame takes.
-ghost use Rattle.std.specs.Prelude.{◌≡◌};
+ghost use Rattle.std.specs.Prelude.{◌≡◌, length, max};
 ghost use Rattle.hsr_tag.specs.Seen.{classified};
 ghost use Rattle.hsr_load.specs.Wire.{is_tagged, least_octets, wire_octets};
 
@@ -34,10 +34,23 @@ fn least_octets(tagged: bool) -> u64
     if tagged { LEAST_TAGGED } else { LEAST_PLAIN }
 }
 
+/// How many octets a frame has on a link, padding and all.
+#[tactic(auto, using(crate::proofs::Padding::not_padded))]
+fn padded_octets(octets: &[u8]) -> u64
+    ensures { result ≡ max (least_octets (is_tagged (classified octets.now))) (length octets.now) }
+{
+    let count = octets.len() as u64;
+    // So many octets need no padding, tagged or not: only a shorter frame is looked at.
+    if count >= LEAST_TAGGED {
+        return count;
+    }
+    least_octets(is_tagged(octets)).max(count)
+}
+
 /// How many octets of a link a frame takes.
 pub(crate) fn wire_octets(octets: &[u8]) -> u64
     ensures { result ≡ wire_octets octets.now }
 {
     // Frames stand here as they were sent, and a node pads them where they are short.
-    least_octets(is_tagged(octets)).max(octets.len() as u64) + AROUND
+    padded_octets(octets) + AROUND
 }

@@ -12,7 +12,6 @@ use Rattle.hsr_frame.specs.declared.node.RingPort.{RingPort}
 use Rattle.hsr_frame.specs.declared.node.RingPort.TheVariants as port
 use Rattle.hsr_frame_copies.specs.Contents.{CopyFields, copy_of, filled}
 use Rattle.hsr_frame_copies.specs.declared.contents.NoCopy.{NoCopy}
-use Rattle.hsr_node_text.specs.Request.{Asked, send, life, arrive}
 use Rattle.hsr_node.specs.declared.role.Role.{Role}
 use Rattle.hsr_node.specs.declared.role.Role.TheVariants.{Danh as IsDanh}
 use Rattle.hsr_tag.specs.Seen.{classified}
@@ -27,7 +26,7 @@ use Rattle.hsr_tap_device.specs.declared.device.Tap.{Tap}
 use Rattle.hsr_node_lines.specs.Faults.{◌>>=◌}
 use Rattle.hsr_node_lines.specs.Own.{begins_send, handed_with}
 use Rattle.hsr_node_lines.specs.Passage.{is_up, passage_of}
-use Rattle.hsr_node_lines.specs.Spelled.{line_text}
+use Rattle.hsr_node_lines.specs.Spelled.{Asked, send, life, arrive, line_text}
 use Rattle.hsr_node_lines.specs.Taps.{taps_of}
 use Rattle.hsr_node_lines.specs.declared.fault.LinesFault.{LinesFault}
 use Rattle.hsr_node_lines.specs.declared.fault.LinesFault.TheVariants as fault

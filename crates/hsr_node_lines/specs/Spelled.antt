@@ -6,7 +6,20 @@ use Rattle.hex.specs.Hex.{encode_upper}
 use Rattle.hsr_frame.specs.Words.{port_word}
 use Rattle.hsr_frame.specs.declared.node.RingPort.{RingPort}
 use Rattle.hsr_text.specs.Words.{mac_text}
-use Rattle.hsr_node_text.specs.Request.{Asked, Sending, send, life, arrive, age}
+
+-- a frame to be sent
+pub record Sending : Type 0 where
+  pub at : ℕ
+  pub dst : List ℕ
+  pub kind : ℕ
+  pub payload : List ℕ
+  pub vlan : Option ℕ
+
+-- what a packet asks of a node
+pub data Asked : Type 0 where
+  send : Sending → Asked
+  life : ℕ → Asked
+  arrive : ℕ → RingPort → List ℕ → Asked
 
 -- octets in digits, a hyphen for none
 abbrev pub octets_text : List ℕ → List ℕ
@@ -34,4 +47,3 @@ abbrev pub line_text : Asked → List ℕ
 line_text (send s) = send_text s
 line_text (life at) = life_text at
 line_text (arrive at port octets) = arrive_text at port octets
-line_text (age at) = codes "age " ++ decimal at

@@ -1,38 +1,21 @@
--- A reply is made from the node's step.
-use Rattle.std.proofs.Common.{◌≡◌, ◌<◌, ◌++◌, List, ℕ, length, Result, Ok, Err, ap, arith, codes}
+-- There is always something to answer.
+use Rattle.std.proofs.Common.{◌≡◌, ◌<◌, ◌++◌, ◌∷◌, [], List, ℕ, length, Bool, Option, Some, None, option_map, Result, Ok, Err, ap, sym, ◌∙◌, subst, arith, codes}
 use Rattle.std.proofs.lemmas.List.{length-append}
 use Rattle.hsr_frame.specs.Words.{cause_text}
 use Rattle.hsr_frame.specs.declared.counters.Counters.{Counters}
-use Rattle.hsr_frame.specs.declared.fault.SendFault.{SendFault}
-use Rattle.hsr_frame.specs.declared.fault.Spent.{Spent}
-use Rattle.hsr_frame.specs.declared.node.Life.{Life}
-use Rattle.hsr_frame.specs.declared.node.RingPort.{RingPort}
-use Rattle.hsr_danh.specs.Machine.{Machine}
-use Rattle.hsr_danh.specs.Step.{arrive_step, life_step, send_step}
-use Rattle.hsr_danh.specs.declared.danh.Sent.{Sent}
-use Rattle.hsr_danh.specs.declared.danh.Verdict.{Verdict}
-use Rattle.hsr_node_text.specs.Request.{Asked, Sending, age, arrive, life, send}
-use Rattle.hsr_node_text.specs.Reply.{after, arrival_text, counter_line, life_text, passed_text, reply, send_text, verdict_text, word_if}
-
-pub reply-send : (capacity : ℕ) (machine new : Machine) (r : Sending) (sent : Result Sent SendFault) → (sent, new) ≡ send_step capacity machine r.at r.dst r.kind (length r.payload)
-    → (send_text machine.own r sent ≡ reply capacity machine (send r)) × (new ≡ after capacity machine (send r))
-unfolding reply after
-reply-send capacity machine new r sent e =
-    (ap (λ (p : Result Sent SendFault × Machine). send_text machine.own r p.0) e, ap (λ (p : Result Sent SendFault × Machine). p.1) e)
-
-pub reply-life : (capacity : ℕ) (machine new : Machine) (at : ℕ) (lived : Result Life Spent) → (lived, new) ≡ life_step capacity machine at
-    → (life_text machine.own lived ≡ reply capacity machine (life at)) × (new ≡ after capacity machine (life at))
-unfolding reply after
-reply-life capacity machine new at lived e =
-    (ap (λ (p : Result Life Spent × Machine). life_text machine.own p.0) e, ap (λ (p : Result Life Spent × Machine). p.1) e)
-
-pub reply-arrive : (capacity : ℕ) (machine new : Machine) (at : ℕ) (port : RingPort) (octets : List ℕ) (judged : Result Verdict Spent) → (judged, new) ≡ arrive_step capacity machine at port octets
-    → (arrival_text octets judged ≡ reply capacity machine (arrive at port octets)) × (new ≡ after capacity machine (arrive at port octets))
-unfolding reply after
-reply-arrive capacity machine new at port octets judged e =
-    (ap (λ (p : Result Verdict Spent × Machine). arrival_text octets p.0) e, ap (λ (p : Result Verdict Spent × Machine). p.1) e)
-
--- ---- there is always something to write
+use Rattle.hsr_text.proofs.Cuts.{none≢some}
+use Rattle.hsr_node.specs.Copies.{up_octets}
+use Rattle.hsr_node.specs.Step.{node_step}
+use Rattle.hsr_node.specs.declared.event.Event.{Event}
+use Rattle.hsr_node.specs.declared.event.Outcome.{Outcome}
+use Rattle.hsr_node.specs.declared.event.Outcome.TheVariants.{Sent, Life, Judged, Aged}
+use Rattle.hsr_node.specs.declared.event.StepFault.{StepFault}
+use Rattle.hsr_node.specs.declared.node.Node.{Node}
+use Rattle.hsr_node.specs.declared.place.Place.{Place}
+use Rattle.hsr_node_text.specs.Request.{request_of}
+use Rattle.hsr_node_text.specs.declared.request.Request.{Request}
+use Rattle.hsr_node_text.specs.declared.request.Setting.{Setting}
+use Rattle.hsr_node_text.specs.Reply.{answer_of, answer_to, counter_line, leaving_text, outcome_line, outcome_text, passed_text, port_text, refusal_code, refused_text, replied, reply, verdict_text, word_if}
 
 pub some_before : (front rest : List ℕ) → 0 < length front → 0 < length (front ++ rest)
 some_before front rest h = simp length-append (omega arith)
@@ -40,28 +23,47 @@ some_before front rest h = simp length-append (omega arith)
 pub some_behind : (front rest : List ℕ) → 0 < length rest → 0 < length (front ++ rest)
 some_behind front rest h = simp length-append (omega arith)
 
-send_some : (own : List ℕ) (r : Sending) (sent : Result Sent SendFault) → 0 < length (send_text own r sent)
-send_some own r (Ok sent) = some_before (codes "sent ") _ (omega arith)
-send_some own r (Err fault) = some_before (codes "refused ") _ (omega arith)
+verdict_some : (place : Place) (up : Bool) (ports : List Bool) → 0 < length (verdict_text place up ports)
+verdict_some place up ports =
+    some_behind (word_if up (codes " up") ++ port_text place ports 0 ++ port_text place ports 1 ++ port_text place ports 2 ++ port_text place ports 3) (codes "\n") (omega arith)
 
-life_some : (own : List ℕ) (lived : Result Life Spent) → 0 < length (life_text own lived)
-life_some own (Ok l) = some_before (codes "life ") _ (omega arith)
-life_some own (Err _) = some_before (codes "refused ") _ (omega arith)
+line_some : (place : Place) (o : Outcome) → 0 < length (outcome_line place o)
+line_some place (Sent seq ports) = some_before (codes "sent ") _ (omega arith)
+line_some place (Life seq life ports) = some_before (codes "life ") _ (omega arith)
+line_some place (Judged up ports seq cause) = some_behind (cause_text (codes " ") cause) _ (verdict_some place up ports)
+line_some place Aged = omega arith
 
-verdict_some : (v : Verdict) → 0 < length (verdict_text v)
-verdict_some v =
-    some_behind (cause_text (codes " ") v.cause ++ word_if v.up (codes " up") ++ word_if v.a (codes " A") ++ word_if v.b (codes " B")) (codes "\n") (omega arith)
+outcome_some : (place : Place) (event : Event) (o : Outcome) → 0 < length (outcome_text place event o)
+unfolding outcome_text
+outcome_some place event o = some_before (outcome_line place o ++ leaving_text (codes "up") (up_octets event o)) _ (some_before (outcome_line place o) _ (line_some place o))
 
-arrival_some : (octets : List ℕ) (judged : Result Verdict Spent) → 0 < length (arrival_text octets judged)
-arrival_some octets (Ok v) = some_before (verdict_text v) _ (verdict_some v)
-arrival_some octets (Err _) = some_before (codes "refused ") _ (omega arith)
+refused_some : (code : Option ℕ) (text : List ℕ) → option_map refused_text code ≡ Some text → 0 < length text
+refused_some None text e = absurd (none≢some e)
+refused_some (Some n) text e =
+    let is : Some (refused_text n) ≡ Some text = e in
+    let same : refused_text n ≡ text = cc in
+    subst (λ (t : List ℕ). 0 < length t) same (some_before (codes "refused ") _ (omega arith))
 
-pub reply_some : (capacity : ℕ) (machine : Machine) (r : Asked) → 0 < length (reply capacity machine r)
-unfolding reply
-reply_some capacity machine (send r) = send_some machine.own r _
-reply_some capacity machine (life at) = life_some machine.own _
-reply_some capacity machine (arrive at port octets) = arrival_some octets _
-reply_some capacity machine (age at) = omega arith
+reply_some : (place : Place) (event : Event) (r : Result Outcome StepFault) (text : List ℕ) → reply place event r ≡ Some text → 0 < length text
+reply_some place event (Ok o) text e =
+    let is : Some (outcome_text place event o) ≡ Some text = e in
+    let same : outcome_text place event o ≡ text = cc in
+    subst (λ (t : List ℕ). 0 < length t) same (outcome_some place event o)
+reply_some place event (Err fault) text e = refused_some (refusal_code fault) text e
+
+replied_some : {M : Type 0} (said : Option (List ℕ)) (node new : M) (text : List ℕ) → option_map {U = List ℕ × M} (λ (t : List ℕ). (t, node)) said ≡ Some (text, new) → said ≡ Some text
+replied_some {M} None node new text e = absurd (none≢some e)
+replied_some {M} (Some t) node new text e = ap (option_map (λ (p : List ℕ × M). p.0)) e
+
+to_some : (capacity : ℕ) (place : Place) (old new : Node capacity) (r : Option Request) (text : List ℕ) → answer_to capacity place old r ≡ Some (text, new) → 0 < length text
+to_some capacity place old new None text e = absurd (none≢some e)
+to_some capacity place old new (Some r) text e =
+    let step = node_step capacity old r.at r.event in
+    reply_some place r.event step.0 text (replied_some (reply place r.event step.0) step.1 new text e)
+
+pub answer_some : (capacity : ℕ) (setting : Setting) (old new : Node capacity) (line text : List ℕ) → answer_of capacity setting old line ≡ Some (text, new) → 0 < length text
+unfolding answer_of
+answer_some capacity setting old new line text e = to_some capacity setting.place old new (request_of setting line) text e
 
 pub counter_some : (c : Counters) → 0 < length (counter_line c)
 unfolding counter_line

@@ -4,45 +4,47 @@ use Rattle.std.specs.Result.{result_ok}
 use Rattle.std.specs.Str.{bytes_eq}
 use Rattle.hsr_frame.specs.Address.{address_of}
 use Rattle.hsr_frame.specs.Cases.{first_of}
-use Rattle.hsr_frame.specs.Words.{port_of}
+use Rattle.hsr_frame.specs.declared.node.About.{About}
+use Rattle.hsr_frame.specs.declared.node.About.TheVariants.{Own, Proxied}
 use Rattle.hsr_text.specs.Moments.{moment_of}
 use Rattle.hsr_text.specs.Words.{◌>>=◌, cut, word_at, hex_pair_of, hex_octets_of}
 use Rattle.hsr_text.specs.declared.time_unit.TimeUnit.{TimeUnit}
-use Rattle.hsr_frame.specs.declared.node.RingPort.{RingPort}
+use Rattle.hsr_node.specs.Words.{port_of}
+use Rattle.hsr_node.specs.declared.event.Event.TheVariants.{Send, Supervise, Arrive, Age}
+use Rattle.hsr_node.specs.declared.place.Place.{Place}
 use Rattle.hsr_node_text.specs.declared.request.Request.{Request}
-use Rattle.hsr_node_text.specs.declared.request.Request.TheVariants.{Send, Life, Arrive, Age}
+use Rattle.hsr_node_text.specs.declared.request.Setting.{Setting}
 
--- a frame to be sent, without where its payload lies in memory
-pub record Sending : Type 0 where
-  pub at : ℕ
-  pub dst : List ℕ
-  pub kind : ℕ
-  pub payload : List ℕ
-  pub vlan : Option ℕ
-
-pub data Asked : Type 0 where
-  send : Sending → Asked
-  life : ℕ → Asked
-  arrive : ℕ → RingPort → List ℕ → Asked
-  age : ℕ → Asked
-
-abbrev pub view : Request → Asked
-view (Send at dst ethertype payload vlan) =
-    send (record { at = at; dst = dst; kind = ethertype; payload = payload.items; vlan = vlan })
-view (Life at) = life at
-view (Arrive at port octets) = arrive at port octets.items
-view (Age at) = age at
+-- a word that is the last
+abbrev pub last_word : Option (List ℕ) → Option (List ℕ)
+last_word words = do
+  word ← word_at words
+  elim word.1 [ None ↦ Some word.0 | Some _ ↦ None ]
 
 -- the word of a VLAN tag's control information, if there is one, and nothing behind it
 abbrev pub vlan_of : Option (List ℕ) → Option (Option ℕ)
 vlan_of None = Some None
 vlan_of (Some text) = do
-  word ← word_at (Some text)
-  control ← hex_pair_of word.0
-  elim word.1 [ None ↦ Some (Some control) | Some _ ↦ None ]
+  word ← last_word (Some text)
+  control ← hex_pair_of word
+  Some (Some control)
+
+-- the address of the station that a supervision is about, if there is one, and nothing behind it
+abbrev pub about_of : Option (List ℕ) → Option About
+about_of None = Some Own
+about_of (Some text) = do
+  word ← last_word (Some text)
+  mac ← result_ok (address_of word)
+  Some (Proxied mac)
+
+-- a port that the place has, by its letter alone
+abbrev pub port_in : Place → List ℕ → Option ℕ
+port_in place [] = None
+port_in place (c ∷ []) = port_of place c
+port_in place (c ∷ d ∷ cs) = None
 
 -- <at> <dst> <type4> <payload> [<vlan4>]
-abbrev pub send_in : TimeUnit → Option (List ℕ) → Option Asked
+abbrev pub send_in : TimeUnit → Option (List ℕ) → Option Request
 send_in unit words = do
   at ← word_at words
   moment ← moment_of unit at.0
@@ -53,51 +55,43 @@ send_in unit words = do
   text ← word_at type.1
   payload ← hex_octets_of text.0
   vlan ← vlan_of text.1
-  Some (send (record { at = moment; dst = address; kind = ethertype; payload = payload; vlan = vlan }))
+  Some (record { at = moment; event = Send 0 address vlan ethertype payload })
 
--- a word that is the last
-abbrev pub last_word : Option (List ℕ) → Option (List ℕ)
-last_word words = do
-  word ← word_at words
-  elim word.1 [ None ↦ Some word.0 | Some _ ↦ None ]
-
--- a moment that is the last word
-abbrev pub last_moment : TimeUnit → Option (List ℕ) → Option ℕ
-last_moment unit words = do
-  word ← last_word words
-  moment_of unit word
-
--- <at> A|B <octets>
-abbrev pub arrival_in : TimeUnit → Option (List ℕ) → Option Asked
-arrival_in unit words = do
+-- <at> [<station>]
+abbrev pub life_in : TimeUnit → Option (List ℕ) → Option Request
+life_in unit words = do
   at ← word_at words
   moment ← moment_of unit at.0
+  about ← about_of at.1
+  Some (record { at = moment; event = Supervise about })
+
+-- <at> <port> <octets>
+abbrev pub arrival_in : Setting → Option (List ℕ) → Option Request
+arrival_in setting words = do
+  at ← word_at words
+  moment ← moment_of setting.unit at.0
   letter ← word_at at.1
-  port ← port_of letter.0
+  port ← port_in setting.place letter.0
   word ← last_word letter.1
   octets ← hex_octets_of word
-  Some (arrive moment port octets)
+  Some (record { at = moment; event = Arrive port (record { probe = None; octets = octets }) })
 
 -- <at>
-abbrev pub life_in : TimeUnit → Option (List ℕ) → Option Asked
-life_in unit words = do
-  at ← last_moment unit words
-  Some (life at)
-
-abbrev pub age_in : TimeUnit → Option (List ℕ) → Option Asked
+abbrev pub age_in : TimeUnit → Option (List ℕ) → Option Request
 age_in unit words = do
-  at ← last_moment unit words
-  Some (age at)
+  word ← last_word words
+  moment ← moment_of unit word
+  Some (record { at = moment; event = Age })
 
--- what a line asks for, by its first word, where the moments of the text are in this unit
-unfoldable pub request_of : TimeUnit → List ℕ → Option Asked
-request_of unit line =
+-- what a line asks for, by its first word
+unfoldable pub request_of : Setting → List ℕ → Option Request
+request_of setting line =
     let verb = (cut 32 line).0 in
     let words = (cut 32 line).1 in
     first_of
-    ((bytes_eq verb (codes "send"), send_in unit words)
-    ∷ (bytes_eq verb (codes "arrive"), arrival_in unit words)
-    ∷ (bytes_eq verb (codes "life"), life_in unit words)
-    ∷ (bytes_eq verb (codes "age"), age_in unit words)
+    ((bytes_eq verb (codes "send"), send_in setting.unit words)
+    ∷ (bytes_eq verb (codes "arrive"), arrival_in setting words)
+    ∷ (bytes_eq verb (codes "life"), life_in setting.unit words)
+    ∷ (bytes_eq verb (codes "age"), age_in setting.unit words)
     ∷ [])
     None

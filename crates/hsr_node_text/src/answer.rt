@@ -1,107 +1,78 @@
-//! What a node answers to a request.
-ghost use Rattle.std.specs.Prelude.{◌≡◌, ◌++◌, OnOk};
-ghost use Rattle.hsr_node_text.specs.Request.{arrive, life, send, view};
-ghost use Rattle.hsr_node_text.specs.Reply.{after, reply};
+//! What a node answers to a line.
+ghost use Rattle.std.specs.Prelude.{Some, option_map};
+ghost use Rattle.hsr_text.specs.Words.{Gives};
+ghost use Rattle.hsr_node_text.specs.Reply.{answer_of, answer_to, outcome_text, refusal_code, refused_text};
 
-use crate::reply::{put_judged, put_lived, put_refused, put_sent};
-use crate::request::Request;
-use hsr_danh::Danh;
-use hsr_frame::{Mac, NoMemory, RingPort, SendFault};
-use hsr_node::asked_frame;
+use crate::reply::{put_outcome, put_refused, refusal_code};
+use crate::request::{Request, Setting, read_request};
+use hsr_node::{Event, Node, Outcome, Place, StepFault};
+use hsr_text::WordFault;
+use std::alloc::Global;
 
-/// Sends a frame, and puts the lines that answer it.
-fn answer_send<const C: usize>(
-    danh: &mut Danh<C>,
-    at: u64,
-    dst: Mac,
-    vlan: Option<u16>,
-    ethertype: u16,
-    payload: &[u8],
+/// Makes a text the lines by which a node of this place answers an event with this outcome. What it held goes.
+fn tell_outcome(
     text: &mut Vec<u8>,
-) -> Result<(), NoMemory>
-    ensures text { OnOk result (text.new.items
-        ≡ text.old.items ++ reply C danh.old
-        (send (record { at = at; dst = dst; kind = ethertype; payload = payload.now; vlan = vlan }))) }
-    ensures after { danh.new ≡ after C danh.old
-        (send (record { at = at; dst = dst; kind = ethertype; payload = payload.now; vlan = vlan })) }
+    place: &Place,
+    event: &Event,
+    outcome: &Outcome,
+) -> Result<(), WordFault>
+    ensures { Gives (λ _. text.new.items) result
+        (Some (outcome_text place.now event.now outcome.now)) }
 {
-    let own = danh.address();
-    match danh.send(at, dst, vlan, ethertype, payload) {
-        Ok(sent) => {
-            // The node answers no frame: what is sent is formed anew, as everywhere else, by the one function for it.
-            let frame = asked_frame(Some(own), dst, vlan, ethertype, payload);
-            put_sent(text, frame, sent.seq)
-        },
-        Err(fault) => put_refused(text, fault),
+    // The same room for each line, so that it mostly takes no new memory.
+    text.clear();
+    match put_outcome(text, place, event, outcome) {
+        Ok(()) => Ok(()),
+        Err(_) => Err(WordFault::Memory),
     }
 }
 
-/// Sends a supervision frame, and puts the lines that answer it.
-fn answer_life<const C: usize>(
-    danh: &mut Danh<C>,
-    at: u64,
-    text: &mut Vec<u8>,
-) -> Result<(), NoMemory>
-    ensures text { OnOk result (text.new.items ≡ text.old.items ++ reply C danh.old (life at)) }
-    ensures after { danh.new ≡ after C danh.old (life at) }
+/// Makes a text the line of an event that was refused. What it held goes; `Bad` where there is no such line.
+fn tell_refusal(text: &mut Vec<u8>, fault: StepFault) -> Result<(), WordFault>
+    ensures { Gives (λ _. text.new.items) result (option_map refused_text (refusal_code fault)) }
 {
-    let own = danh.address();
-    match danh.supervise(at) {
-        Ok(sent) => put_lived(text, own, sent),
-        // A supervision is refused for this reason alone.
-        Err(_) => put_refused(text, SendFault::Spent),
+    text.clear();
+    let code = refusal_code(fault).ok_or(WordFault::Bad)?;
+    match put_refused(text, code) {
+        Ok(()) => Ok(()),
+        Err(_) => Err(WordFault::Memory),
     }
 }
 
-/// Judges an arrival, and puts the lines that answer it.
-fn answer_arrival<const C: usize>(
-    danh: &mut Danh<C>,
-    at: u64,
-    port: RingPort,
-    octets: &[u8],
-    text: &mut Vec<u8>,
-) -> Result<(), NoMemory>
-    ensures text { OnOk result (text.new.items
-        ≡ text.old.items ++ reply C danh.old (arrive at port octets.now)) }
-    ensures after { danh.new ≡ after C danh.old (arrive at port octets.now) }
-{
-    match danh.arrive(at, port, octets) {
-        Ok(verdict) => put_judged(text, octets, verdict),
-        // An arrival is refused for this reason alone.
-        Err(_) => put_refused(text, SendFault::Spent),
-    }
-}
-
-/// Makes a text the lines that answer a request.
-/// What the text held goes. Moments are microseconds. `NoMemory` if allocation fails; the node has done the
-/// request then, and the text has a front of its answer at most.
-#[tactic(auto, unfolding(crate::specs::Reply::reply, crate::specs::Reply::after))]
-pub fn answer_request<const C: usize>(
-    danh: &mut Danh<C>,
+/// Lets what is asked for happen to a node of this place, and makes a text the lines that answer it.
+/// What the text held goes. `Bad` exactly where it doesn't fit the kind of node, as a send of a QuadBox. `Memory` if allocation
+/// fails: the node has done it then, and the text has a front of the answer at most.
+#[tactic(auto, using(crate::proofs::Answering::accepted, crate::proofs::Answering::refused))]
+fn answer_request<const C: usize>(
+    place: &Place,
+    node: &mut Node<C>,
     request: &Request,
     text: &mut Vec<u8>,
-) -> Result<(), NoMemory>
-    ensures text { OnOk result (text.new.items ≡ reply C danh.old (view request.now)) }
-    ensures after { danh.new ≡ after C danh.old (view request.now) }
+) -> Result<(), WordFault>
+    ensures { Gives (λ _. (text.new.items, node.new)) result
+        (answer_to C place.now node.old (Some request.now)) }
 {
-    // The same room for each request, so that a line mostly takes no new memory.
-    text.clear();
-    match request {
-        Request::Send {
-            at,
-            dst,
-            kind: ethertype,
-            payload,
-            vlan,
-        } => answer_send(danh, *at, *dst, *vlan, *ethertype, payload.as_slice(), text),
-        Request::Life { at } => answer_life(danh, *at, text),
-        Request::Arrive { at, port, octets } => {
-            answer_arrival(danh, *at, *port, octets.as_slice(), text)
-        }
-        Request::Age { at } => {
-            danh.age(*at);
-            text.extend_from_slice(b"aged\n")?;
-            Ok(())
-        }
+    match node.apply(request.at, &request.event) {
+        Ok(outcome) => tell_outcome(text, place, &request.event, &outcome),
+        Err(fault) => tell_refusal(text, fault),
+    }
+}
+
+/// Answers a line, without its line feed, by a node of this kind: makes a text the lines that answer it.
+/// What the text held goes. `Bad` exactly where the line is bad, or is none of this kind of node (RULES, Lines of `node`). `Memory`
+/// if allocation fails: the node may have done what the line asks for, and the text has a front of the answer at most.
+pub fn answer_line<const C: usize>(
+    alloc: Global,
+    setting: &Setting,
+    node: &mut Node<C>,
+    line: &[u8],
+    text: &mut Vec<u8>,
+) -> Result<(), WordFault>
+    ensures { Gives (λ _. (text.new.items, node.new)) result
+        (answer_of C setting.now node.old line.now) }
+{
+    match read_request(alloc, setting, line) {
+        Ok(request) => answer_request(&setting.place, node, &request, text),
+        Err(fault) => Err(fault),
     }
 }

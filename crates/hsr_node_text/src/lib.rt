@@ -2,15 +2,15 @@
 //!
 //! Its modules, in the order in which to read them:
 //! - `request`: what an input line of `node` asks for
-//! - `reply`: the lines that answer a request, and the line of counters
-//! - `answer`: what a node answers to a request
+//! - `reply`: the lines that answer an event, and the line of counters
+//! - `answer`: what a node answers to a line
 #![tactic(auto)]
 
 mod answer;
 mod reply;
 mod request;
 
-pub use answer::answer_request;
+pub use answer::answer_line;
 pub use hsr_text::put_count;
 pub use reply::put_counters;
-pub use request::{Request, read_request};
+pub use request::{Request, Setting, read_request};

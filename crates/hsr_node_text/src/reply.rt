@@ -1,16 +1,14 @@
-//! The lines that answer a request, and the line of counters.
-ghost use Rattle.std.specs.Prelude.{◌≡◌, ◌≢◌, ◌≤◌, ◌^◌, ◌++◌, ◌∷◌, codes, length, OnOk};
+//! The lines that answer an event, and the line of counters.
+ghost use Rattle.std.specs.Prelude.{◌≡◌, ◌≤◌, ◌^◌, ◌++◌, ◌∷◌, [], codes, OnOk};
 ghost use Rattle.std.specs.Fmt.{decimal};
 ghost use Rattle.hex.specs.Hex.{encode_upper};
 ghost use Rattle.hsr_frame.specs.Counters.{AreWithin};
-ghost use Rattle.hsr_frame.specs.Words.{cause_text, fault_text, port_word};
-ghost use Rattle.hsr_node.specs.Copies.{plain_octets};
-ghost use Rattle.hsr_node_text.specs.Reply.{both_text, copies_text, counter_line, judged_text, lived_text, passed_text, refused_text, sent_text, stopped_text, up_text, verdict_text, word_if};
+ghost use Rattle.hsr_frame.specs.Words.{cause_text, fault_text};
+ghost use Rattle.hsr_node_text.specs.Reply.{copies_text, copy_text, counter_line, is_told_again, leaving_text, number_text, outcome_line, outcome_text, passed_text, port_text, refusal_code, refused_text, stopped_text, verdict_text, word_if};
 
-use hsr_danh::Verdict;
-use hsr_frame::{About, Cause, Counters, FrameFault, Life, Mac, NoMemory, RingPort, SendFault};
-use hsr_node::{life_frame, plain_octets, ring_octets};
-use hsr_tag::{FrameView, Spelled};
+use hsr_frame::{Cause, Counters, FrameFault, NoMemory};
+use hsr_node::{Event, Outcome, Place, StepFault, spelled_out, spelled_up};
+use hsr_tag::Spelled;
 use hsr_text::{put, put_count, put_hex, put_octets};
 
 /// Puts the octets of a frame, as hexadecimal digits.
@@ -22,55 +20,81 @@ fn put_spelled(text: &mut Vec<u8>, spelled: &Spelled<'_>) -> Result<(), NoMemory
     put_hex(text, rest)
 }
 
-/// Puts the two copies of a frame that leave by the ports.
-fn put_both(text: &mut Vec<u8>, frame: &FrameView<'_>, seq: u16) -> Result<(), NoMemory>
-    ensures { OnOk result (text.new.items ≡ text.old.items ++ both_text frame.now seq) }
+/// Puts the line of an egress with the octets that leave by it, if some do.
+fn put_leaving(
+    text: &mut Vec<u8>,
+    egress: &[u8],
+    octets: Option<Spelled<'_>>,
+) -> Result<(), NoMemory>
+    ensures { OnOk result (text.new.items
+        ≡ text.old.items ++ leaving_text egress.now octets.entry) }
 {
-    text.extend_from_slice(b"A ")?;
-    put_spelled(text, &ring_octets(RingPort::A, seq, frame))?;
-    text.extend_from_slice(b"\nB ")?;
-    put_spelled(text, &ring_octets(RingPort::B, seq, frame))?;
+    let Some(octets) = octets else {
+        return Ok(());
+    };
+    put_octets(text, egress)?;
+    text.push(b' ')?;
+    put_spelled(text, &octets)?;
     put(text, "\n")
 }
 
-/// Puts the copies of a frame, if there is one.
-fn put_copies(text: &mut Vec<u8>, frame: Option<FrameView<'_>>, seq: u16) -> Result<(), NoMemory>
-    ensures { OnOk result (text.new.items ≡ text.old.items ++ copies_text frame.entry seq) }
+/// Puts the line of a port with the octets that leave by it, if some do.
+fn put_copy(
+    text: &mut Vec<u8>,
+    place: &Place,
+    event: &Event,
+    outcome: &Outcome,
+    port: u8,
+) -> Result<(), NoMemory>
+    ensures { OnOk result (text.new.items
+        ≡ text.old.items ++ copy_text place.now event.now outcome.now port) }
 {
-    match frame {
-        Some(frame) => put_both(text, &frame, seq),
-        // No accepted send comes here: its frame can always be spelled.
-        None => Ok(()),
+    let letter = [place.letter(port)];
+    put_leaving(
+        text,
+        letter.as_slice(),
+        spelled_out(place, event, outcome, port),
+    )
+}
+
+/// Puts the lines of what leaves by the ports, in the order of their numbers.
+fn put_copies(
+    text: &mut Vec<u8>,
+    place: &Place,
+    event: &Event,
+    outcome: &Outcome,
+) -> Result<(), NoMemory>
+    ensures { OnOk result (text.new.items
+        ≡ text.old.items ++ copies_text place.now event.now outcome.now) }
+{
+    // No node has more than four ports.
+    put_copy(text, place, event, outcome, 0)?;
+    put_copy(text, place, event, outcome, 1)?;
+    put_copy(text, place, event, outcome, 2)?;
+    put_copy(text, place, event, outcome, 3)
+}
+
+/// Whether the octets that leave by ports are told: not those that a DANH passes on, which leave as they came.
+fn is_told_again(place: &Place, outcome: &Outcome) -> bool
+    ensures { result ≡ is_told_again place.now outcome.now }
+{
+    match place {
+        Place::Danh { .. } => match outcome {
+            Outcome::Judged { .. } => false,
+            _ => true,
+        },
+        _ => true,
     }
 }
 
-/// Puts the lines of a send that was accepted.
-/// `sent <number>`, and the copies of the frame for A and B, where there is a frame. `NoMemory` if allocation fails.
-pub fn put_sent(text: &mut Vec<u8>, frame: Option<FrameView<'_>>, seq: u16) -> Result<(), NoMemory>
-    ensures { OnOk result (text.new.items ≡ text.old.items ++ sent_text frame.entry seq) }
+/// Puts the number of a frame, or a hyphen if it got none.
+fn put_number(text: &mut Vec<u8>, seq: Option<u16>) -> Result<(), NoMemory>
+    ensures { OnOk result (text.new.items ≡ text.old.items ++ number_text seq) }
 {
-    put_count(text, b"sent ", u64::from(seq))?;
-    text.extend_from_slice(b"\n")?;
-    put_copies(text, frame, seq)
-}
-
-/// Puts the line of a send, supervision or arrival that was refused.
-pub fn put_refused(text: &mut Vec<u8>, fault: SendFault) -> Result<(), NoMemory>
-    ensures { OnOk result (text.new.items ≡ text.old.items ++ refused_text fault) }
-{
-    put_count(text, b"refused ", u64::from(fault.code()))?;
-    put(text, "\n")
-}
-
-/// Puts the lines of a supervision that was accepted.
-/// `life <number> <earlier>`, and the two copies of the frame about the node itself. `NoMemory` if allocation fails.
-pub fn put_lived(text: &mut Vec<u8>, own: Mac, life: Life) -> Result<(), NoMemory>
-    ensures { OnOk result (text.new.items ≡ text.old.items ++ lived_text own life) }
-{
-    put_count(text, b"life ", u64::from(life.seq))?;
-    put_count(text, b" ", u64::from(life.life))?;
-    text.extend_from_slice(b"\n")?;
-    put_copies(text, life_frame(Some(own), About::Own, life.life), life.seq)
+    match seq {
+        None => put(text, "-"),
+        Some(seq) => put_count(text, b"", u64::from(seq)),
+    }
 }
 
 /// Puts a word, if it is said.
@@ -83,16 +107,13 @@ fn put_if(text: &mut Vec<u8>, said: bool, word: &[u8]) -> Result<(), NoMemory>
     Ok(())
 }
 
-/// Puts the letter of a ring port, if something leaves by it.
-fn put_port_if(text: &mut Vec<u8>, leaves: bool, port: RingPort) -> Result<(), NoMemory>
-    ensures { OnOk result (text.new.items ≡ text.old.items
-        ++ word_if leaves (32 ∷ port_word port)) }
+/// Puts the letter of a port behind a space, if something leaves by it.
+fn put_port(text: &mut Vec<u8>, place: &Place, ports: &[bool; 4], port: u8) -> Result<(), NoMemory>
+    ensures { OnOk result (text.new.items ≡ text.old.items ++ port_text place.now ports.now port) }
 {
-    if leaves {
-        text.push(b' ')?;
-        return put(text, port.word());
-    }
-    Ok(())
+    let leaves = ports.get(usize::from(port)).copied().unwrap_or(false);
+    let word = [b' ', place.letter(port)];
+    put_if(text, leaves, word.as_slice())
 }
 
 /// Puts the number of a fault behind a space, if there is one.
@@ -113,42 +134,105 @@ fn put_cause(text: &mut Vec<u8>, cause: Cause) -> Result<(), NoMemory>
     put_fault(text, cause.fault())
 }
 
-/// Puts the line of an arrival.
-fn put_verdict(text: &mut Vec<u8>, verdict: Verdict) -> Result<(), NoMemory>
-    ensures { OnOk result (text.new.items ≡ text.old.items ++ verdict_text verdict) }
+/// Puts the letters of the ports beside A and B, which lead to an interlink or to another ring, and ends the line.
+fn put_other_ports(text: &mut Vec<u8>, place: &Place, ports: &[bool; 4]) -> Result<(), NoMemory>
+    ensures { OnOk result (text.new.items ≡ text.old.items
+        ++ port_text place.now ports.now 2 ++ port_text place.now ports.now 3 ++ codes "\n") }
 {
-    put_cause(text, verdict.cause)?;
-    put_if(text, verdict.up, b" up")?;
-    put_port_if(text, verdict.a, RingPort::A)?;
-    put_port_if(text, verdict.b, RingPort::B)?;
+    put_port(text, place, ports, 2)?;
+    put_port(text, place, ports, 3)?;
     put(text, "\n")
 }
 
-/// Puts the line of what goes up.
-fn put_up(text: &mut Vec<u8>, octets: &[u8]) -> Result<(), NoMemory>
-    ensures { OnOk result (text.new.items ≡ text.old.items ++ up_text (plain_octets octets.now)) }
+/// Puts the egresses of an arrival, up and then the ports by their numbers, and ends the line.
+fn put_verdict(
+    text: &mut Vec<u8>,
+    place: &Place,
+    up: bool,
+    ports: &[bool; 4],
+) -> Result<(), NoMemory>
+    ensures { OnOk result (text.new.items ≡ text.old.items ++ verdict_text place.now up ports.now) }
 {
-    // What went up is a frame, so this isn't met.
-    let Some(plain) = plain_octets(octets) else {
-        return Ok(());
-    };
-    text.extend_from_slice(b"up ")?;
-    put_spelled(text, &plain)?;
-    put(text, "\n")
+    put_if(text, up, b" up")?;
+    put_port(text, place, ports, 0)?;
+    put_port(text, place, ports, 1)?;
+    put_other_ports(text, place, ports)
 }
 
-/// Puts the lines of an arrival that was judged.
-/// The cause, a fault's number, the egresses in the order `up A B`; and `up <octets>` where it went up. `NoMemory`
-/// if allocation fails.
-pub fn put_judged(text: &mut Vec<u8>, octets: &[u8], verdict: Verdict) -> Result<(), NoMemory>
-    ensures { OnOk result (text.new.items ≡ text.old.items ++ judged_text octets.now verdict) }
+/// Puts the first line of what a node answers.
+fn put_outcome_line(text: &mut Vec<u8>, place: &Place, outcome: &Outcome) -> Result<(), NoMemory>
+    ensures { OnOk result (text.new.items ≡ text.old.items ++ outcome_line place.now outcome.now) }
 {
-    put_verdict(text, verdict)?;
-    // A verdict holds no frame, so what goes up is read anew from the octets that came.
-    if verdict.up {
-        return put_up(text, octets);
+    match outcome {
+        Outcome::Sent { seq, ports: _ } => {
+            text.extend_from_slice(b"sent ")?;
+            put_number(text, *seq)?;
+            put(text, "\n")
+        }
+        Outcome::Life {
+            seq,
+            life,
+            ports: _,
+        } => {
+            put_count(text, b"life ", u64::from(*seq))?;
+            put_count(text, b" ", u64::from(*life))?;
+            put(text, "\n")
+        }
+        Outcome::Judged {
+            up,
+            ports,
+            seq: _,
+            cause,
+        } => {
+            put_cause(text, *cause)?;
+            put_verdict(text, place, *up, ports)
+        }
+        Outcome::Aged => put(text, "aged\n"),
+    }
+}
+
+/// Puts the lines by which a node of this kind answers an event: the outcome with the egresses of an arrival, what goes up, and
+/// what leaves by each port. `NoMemory` if allocation fails.
+#[tactic(auto, unfolding(crate::specs::Reply::outcome_text))]
+pub fn put_outcome(
+    text: &mut Vec<u8>,
+    place: &Place,
+    event: &Event,
+    outcome: &Outcome,
+) -> Result<(), NoMemory>
+    ensures { OnOk result (text.new.items
+        ≡ text.old.items ++ outcome_text place.now event.now outcome.now) }
+{
+    put_outcome_line(text, place, outcome)?;
+    // An outcome holds no frame, so what goes up is read anew from the octets that came.
+    put_leaving(text, b"up", spelled_up(event, outcome))?;
+    if is_told_again(place, outcome) {
+        return put_copies(text, place, event, outcome);
     }
     Ok(())
+}
+
+/// The number of a reason why an event is refused, where its line is answered at all.
+pub fn refusal_code(fault: StepFault) -> Option<u8>
+    ensures { result ≡ refusal_code fault }
+{
+    match fault {
+        // What a kind of node doesn't do is no line of it (RULES, Lines of `node`).
+        StepFault::WrongEvent => None,
+        StepFault::Send(fault) => Some(fault.code()),
+        StepFault::Spent => Some(3),
+        StepFault::NotProxied => Some(5),
+        // Not met: an event takes memory only where a record is kept.
+        StepFault::NoMemory => None,
+    }
+}
+
+/// Puts the line of an event that was refused, by the number of its reason.
+pub fn put_refused(text: &mut Vec<u8>, code: u8) -> Result<(), NoMemory>
+    ensures { OnOk result (text.new.items ≡ text.old.items ++ refused_text code) }
+{
+    put_count(text, b"refused ", u64::from(code))?;
+    put(text, "\n")
 }
 
 /// Puts how often a node sent, and what of what came it passed.

@@ -1,55 +1,76 @@
 //! What an input line of `node` asks for.
 ghost use Rattle.std.specs.Prelude.{◌≡◌, option_map};
 ghost use Rattle.hsr_text.specs.Words.{Gives};
-ghost use Rattle.hsr_node_text.specs.Request.{age_in, arrival_in, last_moment, life_in, request_of, send_in, view, vlan_of};
+ghost use Rattle.hsr_node_text.specs.Request.{about_of, age_in, arrival_in, last_word, life_in, port_in, request_of, send_in, vlan_of};
 
-use hsr_frame::{Mac, RingPort};
+use hsr_frame::{About, Mac};
+use hsr_node::{Carried, Event, Octets, Place};
 use hsr_text::{TimeUnit, WordFault, hex_octets, hex_pair, word};
 use std::alloc::Global;
 
-/// What a line asks for. Moments are in microseconds.
+/// Whom lines are for, and how they tell moments.
 #[derive(Drop)]
-pub enum Request {
-    /// The node sends a frame of its own.
-    Send {
-        at: u64,
-        dst: Mac,
-        /// The EtherType.
-        kind: u16,
-        payload: Vec<u8>,
-        vlan: Option<u16>,
-    },
-    /// The node sends a supervision frame.
-    Life {
-        at: u64,
-    },
-    /// Octets come to a ring port.
-    Arrive {
-        at: u64,
-        port: RingPort,
-        octets: Vec<u8>,
-    },
-    /// The node drops what is expired.
-    Age {
-        at: u64,
-    },
+pub struct Setting {
+    /// The kind of node that answers them, with its address.
+    pub place: Place,
+    pub unit: TimeUnit,
+}
+
+/// What a line asks for. The moment is in microseconds.
+#[derive(Drop)]
+pub struct Request {
+    pub at: u64,
+    /// What is to happen to the node. A copy that arrives is of no send that is known.
+    pub event: Event,
+}
+
+/// A word that is the last.
+fn last_word<'a>(rest: Option<&'a [u8]>) -> Option<&'a [u8]>
+    ensures { option_map (λ s. s.now) result ≡ last_word (option_map (λ s. s.now) rest.entry) }
+{
+    match word(rest) {
+        Some((text, None)) => Some(text),
+        // Nothing may follow, not even a space (RULES, Lines of `node`).
+        _ => None,
+    }
 }
 
 /// The word of a VLAN tag's control information, where there is one, and nothing behind it.
 fn read_vlan(rest: Option<&[u8]>) -> Result<Option<u16>, WordFault>
     ensures { Gives (λ v. v) result (vlan_of (option_map (λ s. s.now) rest.entry)) }
 {
-    match word(rest) {
-        None => Ok(None),
-        Some((digits, None)) => Ok(Some(hex_pair(digits).ok_or(WordFault::Bad)?)),
-        // Nothing may follow, not even a space (RULES, Lines of `node`).
-        Some((_, Some(_))) => Err(WordFault::Bad),
+    if rest.is_none() {
+        return Ok(None);
+    }
+    let digits = last_word(rest).ok_or(WordFault::Bad)?;
+    Ok(Some(hex_pair(digits).ok_or(WordFault::Bad)?))
+}
+
+/// The address of the station that a supervision is about, where there is one, and nothing behind it.
+fn read_about(rest: Option<&[u8]>) -> Result<About, WordFault>
+    ensures { Gives (λ a. a) result (about_of (option_map (λ s. s.now) rest.entry)) }
+{
+    if rest.is_none() {
+        return Ok(About::Own);
+    }
+    let address = last_word(rest).ok_or(WordFault::Bad)?;
+    let mac = Mac::from_ascii(address).ok().ok_or(WordFault::Bad)?;
+    Ok(About::Proxied(mac))
+}
+
+/// The number of the port whose letter this word is, where the place has it.
+fn port_in(place: &Place, word: &[u8]) -> Option<u8>
+    ensures { result ≡ port_in place.now word.now }
+{
+    match word {
+        [letter] => place.port(*letter),
+        _ => None,
     }
 }
 
 /// Reads `<at> <dst> <type4> <payload> [<vlan4>]`.
 fn read_send(alloc: Global, unit: TimeUnit, rest: Option<&[u8]>) -> Result<Request, WordFault>
-    ensures { Gives view result (send_in unit (option_map (λ s. s.now) rest.entry)) }
+    ensures { Gives (λ r. r) result (send_in unit (option_map (λ s. s.now) rest.entry)) }
 {
     let (digits, rest) = word(rest).ok_or(WordFault::Bad)?;
     let at = unit.read(digits).ok_or(WordFault::Bad)?;
@@ -58,65 +79,77 @@ fn read_send(alloc: Global, unit: TimeUnit, rest: Option<&[u8]>) -> Result<Reque
     let (digits, rest) = word(rest).ok_or(WordFault::Bad)?;
     let ethertype = hex_pair(digits).ok_or(WordFault::Bad)?;
     let (digits, rest) = word(rest).ok_or(WordFault::Bad)?;
-    let payload = hex_octets(alloc, digits)?;
+    let payload = Octets::new(hex_octets(alloc, digits)?);
     let vlan = read_vlan(rest)?;
-    Ok(Request::Send {
-        at,
+    let event = Event::Send {
+        // `from` chooses among a Station's addresses; all other nodes have one at most.
+        from: 0,
         dst,
+        vlan,
         kind: ethertype,
         payload,
-        vlan,
-    })
+    };
+    Ok(Request { at, event })
 }
 
-/// Reads `<at> A|B <octets>`.
-fn read_arrival(alloc: Global, unit: TimeUnit, rest: Option<&[u8]>) -> Result<Request, WordFault>
-    ensures { Gives view result (arrival_in unit (option_map (λ s. s.now) rest.entry)) }
+/// Reads `<at> [<station>]`.
+fn read_life(unit: TimeUnit, rest: Option<&[u8]>) -> Result<Request, WordFault>
+    ensures { Gives (λ r. r) result (life_in unit (option_map (λ s. s.now) rest.entry)) }
 {
     let (digits, rest) = word(rest).ok_or(WordFault::Bad)?;
     let at = unit.read(digits).ok_or(WordFault::Bad)?;
-    let (letter, rest) = word(rest).ok_or(WordFault::Bad)?;
-    let port = RingPort::from_word(letter).ok_or(WordFault::Bad)?;
-    match word(rest) {
-        Some((digits, None)) => {
-            let octets = hex_octets(alloc, digits)?;
-            Ok(Request::Arrive { at, port, octets })
-        }
-        _ => Err(WordFault::Bad),
-    }
+    let about = read_about(rest)?;
+    let event = Event::Supervise(about);
+    Ok(Request { at, event })
 }
 
-/// Reads a moment that is the last word.
-fn read_last(unit: TimeUnit, rest: Option<&[u8]>) -> Option<u64>
-    ensures { result ≡ last_moment unit (option_map (λ s. s.now) rest.entry) }
+/// Reads `<at> <port> <octets>`, with the letter of a port that the node has.
+fn read_arrival(alloc: Global, setting: &Setting, rest: Option<&[u8]>) -> Result<Request, WordFault>
+    ensures { Gives (λ r. r) result (arrival_in setting.now (option_map (λ s. s.now) rest.entry)) }
 {
-    match word(rest) {
-        Some((digits, None)) => unit.read(digits),
-        _ => None,
-    }
+    let (digits, rest) = word(rest).ok_or(WordFault::Bad)?;
+    let at = setting.unit.read(digits).ok_or(WordFault::Bad)?;
+    let (letter, rest) = word(rest).ok_or(WordFault::Bad)?;
+    let port = port_in(&setting.place, letter).ok_or(WordFault::Bad)?;
+    let digits = last_word(rest).ok_or(WordFault::Bad)?;
+    let octets = Octets::new(hex_octets(alloc, digits)?);
+    let carried = Carried {
+        probe: None,
+        octets,
+    };
+    let event = Event::Arrive { port, carried };
+    Ok(Request { at, event })
 }
 
-/// Reads a line of a text whose moments are in this unit.
-/// It has no line feed. `Bad` where it is no line of `node` (RULES, Lines of `node`); `Memory` where room for its
-/// octets is refused.
+/// Reads `<at>`.
+fn read_age(unit: TimeUnit, rest: Option<&[u8]>) -> Result<Request, WordFault>
+    ensures { Gives (λ r. r) result (age_in unit (option_map (λ s. s.now) rest.entry)) }
+{
+    let digits = last_word(rest).ok_or(WordFault::Bad)?;
+    let at = unit.read(digits).ok_or(WordFault::Bad)?;
+    let event = Event::Age;
+    Ok(Request { at, event })
+}
+
+/// Reads a line for a node of this kind, without its line feed.
+/// `Bad` where it is no line of `node` (RULES, Lines of `node`); `Memory` where room for its octets is refused. Whether
+/// such a node sends at all isn't asked.
 #[tactic(auto, unfolding(crate::specs::Request::request_of))]
-pub fn read_request(alloc: Global, unit: TimeUnit, line: &[u8]) -> Result<Request, WordFault>
-    ensures { Gives view result (request_of unit line.now) }
+pub fn read_request(alloc: Global, setting: &Setting, line: &[u8]) -> Result<Request, WordFault>
+    ensures { Gives (λ r. r) result (request_of setting.now line.now) }
 {
     let (verb, rest) = word(Some(line)).ok_or(WordFault::Bad)?;
     if verb == b"send".as_slice() {
-        return read_send(alloc, unit, rest);
+        return read_send(alloc, setting.unit, rest);
     }
     if verb == b"arrive".as_slice() {
-        return read_arrival(alloc, unit, rest);
+        return read_arrival(alloc, setting, rest);
     }
     if verb == b"life".as_slice() {
-        let at = read_last(unit, rest).ok_or(WordFault::Bad)?;
-        return Ok(Request::Life { at });
+        return read_life(setting.unit, rest);
     }
     if verb == b"age".as_slice() {
-        let at = read_last(unit, rest).ok_or(WordFault::Bad)?;
-        return Ok(Request::Age { at });
+        return read_age(setting.unit, rest);
     }
     Err(WordFault::Bad)
 }

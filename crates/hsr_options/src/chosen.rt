@@ -1,6 +1,7 @@
 //! What a command line chooses.
 ghost use Rattle.hsr_frame.specs.Address.{IsGroup};
 
+use crate::role::NodeRole;
 use hsr_frame::{Mac, Mode};
 use hsr_table_size::TableSize;
 use hsr_text::TimeUnit;
@@ -63,6 +64,8 @@ pub enum Form {
 pub struct Showing {
     pub scope: Scope,
     pub form: Form,
+    /// Whether a report and tables have the names of the scenario's nodes and streams in place of numbers.
+    pub names: bool,
 }
 
 impl Showing {
@@ -70,12 +73,14 @@ impl Showing {
     pub const TRANSCRIPT: Showing = Showing {
         scope: Scope::Ring,
         form: Form::Transcript,
+        names: false,
     };
 
     /// The report of a ring's audit with no parts asked for.
     pub const REPORT: Showing = Showing {
         scope: Scope::Ring,
         form: Form::Report(Asked::NOTHING),
+        names: false,
     };
 }
 
@@ -88,9 +93,10 @@ pub enum TableChoice {
     Told,
 }
 
-/// The node that `node` runs. No group has its address.
+/// The node that `node` runs. No group has its address. Address and mode say nothing of a QuadBox.
 #[derive(Clone, Copy, Debug, PartialEq, Eq)]
 pub struct NodeOptions {
+    pub role: NodeRole,
     pub mac: Mac,
     pub mode: Mode,
     pub table: TableSize,
@@ -99,15 +105,17 @@ pub struct NodeOptions {
     pub ghost station: { ¬ IsGroup mac },
 }
 
-/// What to do.
+/// What to do. Paths are those of the words that choose it.
 #[derive(Clone, Copy, Debug, PartialEq, Eq)]
-pub enum Options {
+pub enum Options<'a> {
     /// Answer lines as one node.
     Node(NodeOptions),
     /// Run a scenario, and write its transcript or its report.
     Run {
         table: TableSize,
         showing: Showing,
+        /// The path of the folder into which the run's tables are written, if they are asked for.
+        folder: Option<&'a str>,
         /// Whether a run that can't be closed is shown as it stands.
         shows_open: bool,
         /// Whether standard error says more of how the run ended.
@@ -117,6 +125,8 @@ pub enum Options {
     Threads {
         table: TableSize,
         showing: Showing,
+        /// The path of the folder into which the run's tables are written, if they are asked for.
+        folder: Option<&'a str>,
         /// Whether standard error says more of how the run ended.
         explains: bool,
     },
@@ -125,6 +135,10 @@ pub enum Options {
         table: TableChoice,
         scope: Scope,
         asked: Asked,
+        /// The path of the scenario whose names a report and tables have in place of numbers, if names are asked for.
+        scenario: Option<&'a str>,
+        /// The path of the folder into which the run's tables are written, if they are asked for.
+        folder: Option<&'a str>,
         /// Whether standard error says more of how the audit ended.
         explains: bool,
     },

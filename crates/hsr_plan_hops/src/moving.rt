@@ -74,6 +74,9 @@ fn moved_by_hops<const C: usize>(alloc: Global, told: Meaning, us: u64) -> Resul
         topology: told.topology,
         capacity: told.capacity,
         orders,
+        // Each frame that is told is sent, so its stream stays where it is.
+        streams: told.streams,
+        sends: told.sends,
     })
 }
 

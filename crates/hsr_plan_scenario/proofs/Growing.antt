@@ -1,10 +1,9 @@
 -- Texts that grow by what one more element says.
 use Rattle.std.proofs.Common.{◌≡◌, ℕ, zero, suc, ◌+◌, ◌<◌, List, [], ◌∷◌, ◌++◌, codes, length, min, take, slice_index_or, arith, ap, sym, ◌∙◌, append_assoc, append-nil, add-one, zero-add}
-use Rattle.std.specs.List.{flat_map}
 use Rattle.std.proofs.lemmas.List.{length-append}
 use Rattle.hsr_plan_text.specs.Plan.{Outline}
 use Rattle.hsr_plan_schedule.specs.Meaning.{Meaning}
-use Rattle.hsr_plan_scenario.specs.Spelled.{comma, front_text, listed, numbered, order_line, parted, scenario_text}
+use Rattle.hsr_plan_scenario.specs.Spelled.{comma, front_text, listed, numbered, order_lines, parted, scenario_text}
 
 numbered-suc : {X : Type 0} (text : ℕ → X → List ℕ) (k i : ℕ) (xs : List X) (d : X) → i < length xs →
     numbered text k (take (suc i) xs) ≡ numbered text k (take i xs) ++ text (k + i) (slice_index_or xs i d)
@@ -39,11 +38,11 @@ sum_of : (front lines most : ℕ) → min (min (front + 2) most + min lines most
 sum_of front lines most = omega arith
 
 pub measured_all : (outline : Outline) (m : Meaning) (items : List ℕ) (long front steps octets most : ℕ) → items ≡ front_text outline m → long ≡ length items →
-    front ≡ min (long + 2) most → steps ≡ min (length (flat_map (order_line m.nodes) m.orders)) most → octets ≡ min (front + steps) most →
+    front ≡ min (long + 2) most → steps ≡ min (length (order_lines m.nodes m.streams m.sends m.orders)) most → octets ≡ min (front + steps) most →
     octets ≡ min (length (scenario_text outline m)) most
 unfolding scenario_text
 measured_all outline m items long front steps octets most is len before behind all =
-    let lines : List ℕ = flat_map (order_line m.nodes) m.orders in
+    let lines : List ℕ = order_lines m.nodes m.streams m.sends m.orders in
     let ends : List ℕ = codes "]\n" in
     let whole : length ((front_text outline m ++ lines) ++ ends) ≡ length (front_text outline m) + (length lines + 2) =
     omega (arith, length-append (front_text outline m ++ lines) ends, length-append (front_text outline m) lines) in

@@ -1,5 +1,6 @@
 mod Growing
 mod Names
+mod Orders
 mod Played
 mod Rising
 pub mod Troubles

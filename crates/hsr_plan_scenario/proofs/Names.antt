@@ -4,6 +4,9 @@ use Rattle.std.specs.Global.{Global}
 use Rattle.std.specs.Prelude.{Vec}
 use Rattle.std.proofs.lemmas.Bool.Decides.{nat_tests}
 use Rattle.std.proofs.lemmas.List.{get_or-map, length-append, length-map, length-take, map_push, take_all, take-map, take_more}
+use Rattle.std.specs.Prelude.{◌↔◌}
+use Rattle.hsr_topology.specs.Topology.{Topology}
+use Rattle.hsr_scenario.specs.Names.{NamesMeant}
 use Rattle.hsr_plan_network.specs.Nodes.{Node}
 
 abbrev pub items : Vec ℕ Global → List ℕ
@@ -50,3 +53,27 @@ names_whole names [] others n empty all front is =
 names_whole names (node ∷ left) others n empty all front is =
     let never : (length (node ∷ left) == 0) ≡ false = grind (arith, nat_tests) in
     (λ none. absurd cc, λ same. let none = names_left names (node ∷ left) others n all front same in absurd cc)
+
+-- ---- two lists, one by one
+
+module _ {X Z : Type 0} (view : X → Z) (Whole : Type 0) (x y : X) (left more others rest : List X) (split : left ≡ x ∷ more) (split_others : others ≡ y ∷ rest)
+    (so_far : (map view left ≡ map view others → Whole) × (Whole → map view left ≡ map view others)) where
+  opened : map view left ≡ map view others → view x ∷ map view more ≡ view y ∷ map view rest
+  opened same = sym (ap (map view) split) ∙ same ∙ ap (map view) split_others
+
+  -- where the first are the same, the rest tells
+  pub same_on : view x ≡ view y → (map view more ≡ map view rest → Whole) × (Whole → map view more ≡ map view rest)
+  same_on here = (
+    λ same. so_far.0 (ap (map view) split ∙ ap (λ z. z ∷ map view more) here ∙ ap (λ zs. view y ∷ zs) same ∙ sym (ap (map view) split_others)),
+    λ whole. let all = opened (so_far.1 whole) in cc,
+  )
+
+  -- where they aren't, all isn't
+  pub same_never : view x ≢ view y → Whole → ⊥
+  same_never differs whole = let all = opened (so_far.1 whole) in let first : view x ≡ view y = cc in differs first
+
+-- where topologies and names are the same, all is the same just where the streams are
+pub named_same : (m : NamesMeant) (topology : Topology) (names : List (List ℕ)) (streams : List (List (List ℕ))) (r : Bool) → m.topology ≡ topology → m.names ≡ names
+    → (IsTrue r ↔ (m.streams ≡ streams)) → IsTrue r ↔ (m ≡ record { topology = topology; names = names; streams = streams })
+named_same m topology names streams r here so exact =
+    (λ yes. λ i. record { topology = here i; names = so i; streams = exact.0 yes i }, λ same. exact.1 (ap (λ (n : NamesMeant). n.streams) same))

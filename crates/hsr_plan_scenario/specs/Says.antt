@@ -5,27 +5,37 @@ use Rattle.hsr_finished_run.specs.Finished.{Finished}
 use Rattle.hsr_ring.specs.Finishing.{IsFinishedBy}
 use Rattle.hsr_scenario.specs.Meaning.{Meant, meaning}
 use Rattle.hsr_scenario.specs.Names.{NamesMeant, names_meant}
+use Rattle.hsr_scenario.specs.Streams.{streams_of}
 use Rattle.hsr_plan_text.specs.Plan.{Outline, Plan}
 use Rattle.hsr_plan_text.specs.Meaning.{plan_of}
 use Rattle.hsr_plan_text.specs.declared.fault.PlanFault.{PlanFault}
 use Rattle.hsr_plan_schedule.specs.Meaning.{Meaning}
 use Rattle.hsr_plan_hops.specs.Moving.{MeansMoved}
+use Rattle.hsr_plan_scenario.specs.Sends.{sent_by_all}
 use Rattle.hsr_plan_scenario.specs.Spelled.{scenario_text}
 
 -- the scenario that is meant
 abbrev pub scenario_meant : Meaning → Meant
 scenario_meant m = record { topology = m.topology; capacity = m.capacity; steps = m.orders }
 
--- with the names of its nodes
+-- from which streams the sends of its nodes are
+abbrev pub streams_meant : Meaning → List (List (List ℕ))
+streams_meant m = streams_of (length m.nodes) (sent_by_all m.streams m.sends m.orders)
+
+-- with the names of its nodes, and the streams of their sends
+abbrev pub named_with : Meaning → List (List (List ℕ)) → NamesMeant
+named_with m streams = record { topology = m.topology; names = map (λ node. node.name) m.nodes; streams = streams }
+
 abbrev pub names_meant_by : Meaning → NamesMeant
-names_meant_by m = record { topology = m.topology; names = map (λ node. node.name) m.nodes }
+names_meant_by m = named_with m (streams_meant m)
 
 -- a text begins with a title as a comment, if there is one
 abbrev pub IsTitled : Option (List ℕ) → List ℕ → Type 0
 IsTitled None text = ⊤
 IsTitled (Some title) text = (rest : List ℕ) × (text ≡ codes "# " ++ title ++ codes "\n" ++ rest)
 
--- octets are a text that is read as the scenario that is meant, its nodes have the names that are meant, and it begins with the plan's title
+-- octets are a text that is read as the scenario that is meant, its nodes have the names that are meant, its sends are from the streams that are
+-- meant, and it begins with the plan's title
 pub record Tells (outline : Outline) (m : Meaning) (text : List ℕ) : Type 0 where
   pub is_text : IsUtf8 text
   pub means : meaning text ≡ Ok (scenario_meant m)

@@ -28,7 +28,7 @@ use Rattle.hsr_plan_text.specs.declared.plan.Moves.{Moves}
 use Rattle.hsr_plan_text.specs.declared.plan.Moves.TheVariants.{EachSendDrains, EachMomentDrains, Hop}
 use Rattle.hsr_plan_network.specs.Nodes.{Node}
 use Rattle.hsr_plan_schedule.specs.Meaning.{Meaning}
-use Rattle.hsr_plan_scenario.specs.Sends.{send_moments}
+use Rattle.hsr_plan_scenario.specs.Sends.{next_stream, send_moments, sends_behind}
 
 -- ---- words
 
@@ -151,6 +151,10 @@ abbrev pub vlan_text : Option ℕ → List ℕ
 vlan_text None = []
 vlan_text (Some vlan) = codes ", vlan=0x" ++ encode_upper (pair vlan)
 
+-- the stream from which a frame is
+unfoldable pub stream_text : List ℕ → List ℕ
+stream_text name = codes ", stream=\"" ++ name ++ codes "\""
+
 abbrev pub about_text : About → List ℕ
 about_text Own = []
 about_text (Proxied mac) = codes ", about=" ++ mac_text mac
@@ -158,25 +162,32 @@ about_text (Proxied mac) = codes ", about=" ++ mac_text mac
 unfoldable pub dir_text : Dir → List ℕ
 dir_text dir = codes ", dir=\"" ++ dir_word dir ++ codes "\""
 
-abbrev pub step_text : List Node → steps.Step → List ℕ
-step_text nodes (Clock at) = clock_text at
-step_text nodes (Send k from dst vlan ethertype payload) =
-    at_node (codes "send") nodes k ++ from_text from ++ frame_text dst ethertype payload ++ vlan_text vlan
-step_text nodes (Supervise k about) = at_node (codes "life") nodes k ++ about_text about
-step_text nodes (Age k) = at_node (codes "age") nodes k
-step_text nodes (Put k port) = at_port (codes "put") nodes k port
-step_text nodes (Take l dir) = at_link (codes "take") l ++ dir_text dir
-step_text nodes (Judge k port) = at_port (codes "judge") nodes k port
-step_text nodes (Cut l) = at_link (codes "cut") l
-step_text nodes (Mend l) = at_link (codes "mend") l
-step_text nodes (Inject l dir octets) = at_link (codes "inject") l ++ dir_text dir ++ octets_text (codes "octets") octets
+-- where a frame is from the stream of that name
+abbrev pub step_text : List Node → List ℕ → steps.Step → List ℕ
+step_text nodes name (Clock at) = clock_text at
+step_text nodes name (Send k from dst vlan ethertype payload) =
+    at_node (codes "send") nodes k ++ from_text from ++ frame_text dst ethertype payload ++ vlan_text vlan ++ stream_text name
+step_text nodes name (Supervise k about) = at_node (codes "life") nodes k ++ about_text about
+step_text nodes name (Age k) = at_node (codes "age") nodes k
+step_text nodes name (Put k port) = at_port (codes "put") nodes k port
+step_text nodes name (Take l dir) = at_link (codes "take") l ++ dir_text dir
+step_text nodes name (Judge k port) = at_port (codes "judge") nodes k port
+step_text nodes name (Cut l) = at_link (codes "cut") l
+step_text nodes name (Mend l) = at_link (codes "mend") l
+step_text nodes name (Inject l dir octets) = at_link (codes "inject") l ++ dir_text dir ++ octets_text (codes "octets") octets
 
-abbrev pub order_text : List Node → Order → List ℕ
-order_text nodes (Step step) = step_text nodes step
-order_text nodes Drain = does_text (codes "drain")
+abbrev pub order_text : List Node → List ℕ → Order → List ℕ
+order_text nodes name (Step step) = step_text nodes name step
+order_text nodes name Drain = does_text (codes "drain")
 
-unfoldable pub order_line : List Node → Order → List ℕ
-order_line nodes order = codes "  {" ++ order_text nodes order ++ codes "},\n"
+unfoldable pub order_line : List Node → List ℕ → Order → List ℕ
+order_line nodes name order = codes "  {" ++ order_text nodes name order ++ codes "},\n"
+
+-- the lines of orders, where the streams have these names, and the frames that are sent are from streams of these numbers
+abbrev pub order_lines : List Node → List (List ℕ) → List ℕ → List Order → List ℕ
+order_lines nodes streams sends [] = []
+order_lines nodes streams sends (order ∷ orders) =
+    order_line nodes (next_stream streams sends) order ++ order_lines nodes streams (sends_behind order sends) orders
 
 -- ---- the whole
 
@@ -221,4 +232,4 @@ front_text outline m =
 
 -- the scenario that is meant, with what the plan says besides
 unfoldable pub scenario_text : Outline → Meaning → List ℕ
-scenario_text outline m = front_text outline m ++ flat_map (order_line m.nodes) m.orders ++ codes "]\n"
+scenario_text outline m = front_text outline m ++ order_lines m.nodes m.streams m.sends m.orders ++ codes "]\n"

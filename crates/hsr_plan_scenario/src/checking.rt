@@ -93,15 +93,18 @@ fn check_meaning(alloc: Global, text: &str, meant: &Meaning) -> Result<(), Troub
     }
 }
 
-/// Refuses a text of which the nodes haven't the names that a plan means.
+/// Refuses a text of which the nodes haven't the names that a plan means, or a send isn't from the stream that it means.
 fn check_names(alloc: Global, text: &str, meant: &Meaning) -> Result<(), Trouble>
     ensures named { OnOk result (names_meant text.now ≡ Ok (names_meant_by meant.now)) }
     ensures differs { IfErr result (IfDiffers
         (names_meant text.now ≢ Ok (names_meant_by meant.now))) }
 {
     match read_names(alloc, text) {
-        Ok(names) if is_named(&names, meant) => Ok(()),
-        Ok(_) => Err(Trouble::Differs),
+        Ok(names) => match is_named(alloc, &names, meant) {
+            Ok(true) => Ok(()),
+            Ok(false) => Err(Trouble::Differs),
+            Err(_) => Err(no_memory()),
+        },
         Err(fault) => Err(unread(&fault)),
     }
 }

@@ -8,9 +8,9 @@ ghost use Rattle.std.specs.Fmt.{decimal};
 ghost use Rattle.std.specs.List.{flat_map};
 ghost use Rattle.hex.specs.Hex.{encode_upper};
 ghost use Rattle.hsr_frame.specs.Grammar.{pair};
-ghost use Rattle.hsr_plan_scenario.specs.Spelled.{about_text, at_link, at_node, at_port, clock_text, comma, counts_text, digits_text, dir_text, does_text, frame_text, from_text, front_text, letter_or, link_line, link_lines, links_text, listed, mac_text, mode_text, moves_text, name_of, name_text, node_line, nodes_text, octets_text, order_line, order_text, place_text, port_text, ring_place_text, role_text, scenario_text, sends_text, sizes_text, station_text, stations_text, step_text, summary_text, title_text, vlan_text};
+ghost use Rattle.hsr_plan_scenario.specs.Spelled.{about_text, at_link, at_node, at_port, clock_text, comma, counts_text, digits_text, dir_text, does_text, frame_text, from_text, front_text, letter_or, link_line, link_lines, links_text, listed, mac_text, mode_text, moves_text, name_of, name_text, node_line, nodes_text, octets_text, order_line, order_lines, order_text, place_text, port_text, ring_place_text, role_text, scenario_text, sends_text, sizes_text, station_text, stations_text, step_text, stream_text, summary_text, title_text, vlan_text};
 
-use crate::sends::send_moments;
+use crate::sends::{next_stream, send_moments, sends_behind};
 use hsr_frame::{About, Mac, Mode, NoMemory};
 use hsr_link::Dir;
 use hsr_node::Place;
@@ -349,6 +349,16 @@ fn put_vlan(text: &mut Vec<u8>, vlan: Option<u16>) -> Result<(), NoMemory>
     }
 }
 
+/// Puts the stream from which a frame is last.
+#[tactic(auto, unfolding(crate::specs::Spelled::stream_text))]
+fn put_stream(text: &mut Vec<u8>, name: &[u8]) -> Result<(), NoMemory>
+    ensures { OnOk result (text.new.items ≡ text.old.items ++ stream_text name.now) }
+{
+    put(text, ", stream=\"")?;
+    put_octets(text, name)?;
+    put(text, "\"")
+}
+
 /// Puts whom supervision is about last, if it isn't the node itself.
 fn put_about(text: &mut Vec<u8>, about: About) -> Result<(), NoMemory>
     ensures { OnOk result (text.new.items ≡ text.old.items ++ about_text about) }
@@ -372,9 +382,10 @@ fn put_dir(text: &mut Vec<u8>, dir: Dir) -> Result<(), NoMemory>
     put(text, "\"")
 }
 
-/// Puts a step last.
-fn put_step(text: &mut Vec<u8>, nodes: &[Node], step: &Step) -> Result<(), NoMemory>
-    ensures { OnOk result (text.new.items ≡ text.old.items ++ step_text nodes.now step.now) }
+/// Puts a step last, where a frame is from the stream of that name.
+fn put_step(text: &mut Vec<u8>, nodes: &[Node], name: &[u8], step: &Step) -> Result<(), NoMemory>
+    ensures { OnOk result (text.new.items ≡ text.old.items
+        ++ step_text nodes.now name.now step.now) }
 {
     match step {
         Step::Clock { at } => put_clock(text, *at),
@@ -389,7 +400,8 @@ fn put_step(text: &mut Vec<u8>, nodes: &[Node], step: &Step) -> Result<(), NoMem
             put_at_node(text, "send", nodes, *node)?;
             put_from(text, *from)?;
             put_frame(text, *dst, *ethertype, payload.as_slice())?;
-            put_vlan(text, *vlan)
+            put_vlan(text, *vlan)?;
+            put_stream(text, name)
         }
         Step::Supervise { node, about } => {
             put_at_node(text, "life", nodes, *node)?;
@@ -412,23 +424,30 @@ fn put_step(text: &mut Vec<u8>, nodes: &[Node], step: &Step) -> Result<(), NoMem
     }
 }
 
-/// Puts an order last.
-fn put_order_words(text: &mut Vec<u8>, nodes: &[Node], order: &Order) -> Result<(), NoMemory>
-    ensures { OnOk result (text.new.items ≡ text.old.items ++ order_text nodes.now order.now) }
+/// Puts an order last, where a frame is from the stream of that name.
+fn put_order_words(
+    text: &mut Vec<u8>,
+    nodes: &[Node],
+    name: &[u8],
+    order: &Order,
+) -> Result<(), NoMemory>
+    ensures { OnOk result (text.new.items ≡ text.old.items
+        ++ order_text nodes.now name.now order.now) }
 {
     match order {
-        Order::Step(step) => put_step(text, nodes, step),
+        Order::Step(step) => put_step(text, nodes, name, step),
         Order::Drain => put_does(text, "drain"),
     }
 }
 
-/// Puts the line of an order last.
+/// Puts the line of an order last, where a frame is from the stream of that name.
 #[tactic(auto, unfolding(crate::specs::Spelled::order_line))]
-fn put_order(text: &mut Vec<u8>, nodes: &[Node], order: &Order) -> Result<(), NoMemory>
-    ensures { OnOk result (text.new.items ≡ text.old.items ++ order_line nodes.now order.now) }
+fn put_order(text: &mut Vec<u8>, nodes: &[Node], name: &[u8], order: &Order) -> Result<(), NoMemory>
+    ensures { OnOk result (text.new.items ≡ text.old.items
+        ++ order_line nodes.now name.now order.now) }
 {
     put(text, "  {")?;
-    put_order_words(text, nodes, order)?;
+    put_order_words(text, nodes, name, order)?;
     put(text, "},\n")
 }
 
@@ -475,38 +494,65 @@ fn put_links(text: &mut Vec<u8>, nodes: &[Node], links: &[[End; 2]]) -> Result<(
     put(text, "]\n")
 }
 
-/// Puts the lines of orders last.
-#[tactic(auto, using(hsr_frame::proofs::OneMore::grown))]
-fn put_orders(text: &mut Vec<u8>, nodes: &[Node], orders: &[Order]) -> Result<(), NoMemory>
+/// Puts the lines of orders last, where the streams have these names, and the frames are from streams of these numbers.
+#[tactic(auto, using(crate::proofs::Orders::lines_on))]
+fn put_orders(
+    text: &mut Vec<u8>,
+    nodes: &[Node],
+    streams: &[Word],
+    sends: &[usize],
+    orders: &[Order],
+) -> Result<(), NoMemory>
     ensures { OnOk result (text.new.items ≡ text.old.items
-        ++ flat_map (order_line nodes.now) orders.now) }
+        ++ order_lines nodes.now streams.now sends.now orders.now) }
 {
-    for order in orders.iter() {
-        put_order(text, nodes, order)?;
+    let mut numbers = sends;
+    let mut left = orders;
+    while let Some((order, rest)) = left.split_first() {
+        put_order(text, nodes, next_stream(streams, numbers), order)?;
+        numbers = sends_behind(order, numbers);
+        left = rest;
     }
     Ok(())
 }
 
 /// How many octets the line of an order has. It is formed for it, in a buffer that may be used again.
-fn measured_order(line: &mut Vec<u8>, nodes: &[Node], order: &Order) -> Result<usize, NoMemory>
-    ensures { IfOk result (λ octets. octets ≡ length (order_line nodes.now order.now)) }
+fn measured_order(
+    line: &mut Vec<u8>,
+    nodes: &[Node],
+    name: &[u8],
+    order: &Order,
+) -> Result<usize, NoMemory>
+    ensures { IfOk result (λ octets. octets ≡ length (order_line nodes.now name.now order.now)) }
 {
     // The same room for each line, so that measuring needs no more than the longest.
     line.clear();
-    put_order(line, nodes, order)?;
+    put_order(line, nodes, name, order)?;
     Ok(line.len())
 }
 
 /// How many octets the lines of orders have, or `usize::MAX` where they have more. One of them is kept at a time.
-fn measured_orders(alloc: Global, nodes: &[Node], orders: &[Order]) -> Result<usize, NoMemory>
+#[tactic(auto, using(crate::proofs::Orders::measured_on, crate::proofs::Orders::measured_fits))]
+fn measured_orders(
+    alloc: Global,
+    nodes: &[Node],
+    streams: &[Word],
+    sends: &[usize],
+    orders: &[Order],
+) -> Result<usize, NoMemory>
     ensures { IfOk result (λ octets. octets
-        ≡ min (length (flat_map (order_line nodes.now) orders.now)) usize.MAX) }
+        ≡ min (length (order_lines nodes.now streams.now sends.now orders.now)) usize.MAX) }
 {
     let mut octets = 0usize;
     let mut line = Vec::new(alloc);
-    for order in orders.iter() {
+    let mut numbers = sends;
+    let mut left = orders;
+    while let Some((order, rest)) = left.split_first() {
+        let name = next_stream(streams, numbers);
         // Saturating: a number that is too great is only compared with 16 MiB.
-        octets = octets.saturating_add(measured_order(&mut line, nodes, order)?);
+        octets = octets.saturating_add(measured_order(&mut line, nodes, name, order)?);
+        numbers = sends_behind(order, numbers);
+        left = rest;
     }
     Ok(octets)
 }
@@ -514,9 +560,16 @@ fn measured_orders(alloc: Global, nodes: &[Node], orders: &[Order]) -> Result<us
 /// How many octets the lines of a scenario's orders have, or `usize::MAX` where they have more.
 fn measured_steps(alloc: Global, meaning: &Meaning) -> Result<usize, NoMemory>
     ensures { IfOk result (λ octets. octets
-        ≡ min (length (flat_map (order_line meaning.now.nodes) meaning.now.orders)) usize.MAX) }
+        ≡ min (length (order_lines meaning.now.nodes meaning.now.streams meaning.now.sends
+        meaning.now.orders)) usize.MAX) }
 {
-    measured_orders(alloc, meaning.nodes.as_slice(), meaning.orders.as_slice())
+    measured_orders(
+        alloc,
+        meaning.nodes.as_slice(),
+        meaning.streams.as_slice(),
+        meaning.sends.as_slice(),
+        meaning.orders.as_slice(),
+    )
 }
 
 /// Puts the title as a comment last, if there is one.
@@ -679,8 +732,13 @@ pub(crate) fn spelled(
     ensures { IfOk result (λ text. text.items ≡ scenario_text outline.now meaning.now) }
 {
     let mut text = begun(alloc, outline, meaning)?;
-    let nodes = meaning.nodes.as_slice();
-    put_orders(&mut text, nodes, meaning.orders.as_slice())?;
+    put_orders(
+        &mut text,
+        meaning.nodes.as_slice(),
+        meaning.streams.as_slice(),
+        meaning.sends.as_slice(),
+        meaning.orders.as_slice(),
+    )?;
     put(&mut text, END)?;
     Ok(text)
 }

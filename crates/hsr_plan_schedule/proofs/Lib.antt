@@ -3,3 +3,4 @@ pub mod Lists
 pub mod Moments
 pub mod Running
 pub mod Telling
+pub mod Names

@@ -6,4 +6,5 @@ pub mod Occasions
 pub mod Setting
 pub mod Hearing
 pub mod Orders
+pub mod Naming
 pub mod Meaning

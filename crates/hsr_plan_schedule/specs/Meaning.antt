@@ -12,7 +12,8 @@ use Rattle.hsr_plan_text.specs.declared.fault.Spot.TheVariants as spot
 use Rattle.hsr_plan_network.specs.Nodes.{Node}
 use Rattle.hsr_plan_network.specs.Wiring.{Wired, wired}
 use Rattle.hsr_plan_schedule.specs.Occasions.{occasions}
-use Rattle.hsr_plan_schedule.specs.Orders.{orders_of}
+use Rattle.hsr_plan_schedule.specs.Naming.{stream_names}
+use Rattle.hsr_plan_schedule.specs.Orders.{told_of}
 use Rattle.hsr_plan_schedule.specs.Setting.{Setting}
 use Rattle.hsr_plan_schedule.specs.declared.occasion.Occasion.{Occasion}
 
@@ -27,6 +28,9 @@ pub record Meaning : Type 0 where
   pub topology : Topology
   pub capacity : ℕ
   pub orders : List Order
+  -- the names of the plan's streams, and of each frame that the orders send the number of its stream
+  pub streams : List (List ℕ)
+  pub sends : List ℕ
 
 -- the nodes and the topology of a plan, and all that happens in it, as it is listed
 pub record Listed : Type 0 where
@@ -47,16 +51,18 @@ setting plan wired = record {
   streams = plan.streams;
 }
 
--- the orders that tell what is listed, in order
-abbrev pub Orders : Plan → Listed → List Order → Type 0
-Orders plan all orders = (os : List Occasion) × AreInOrder all.occasions os × (orders ≡ orders_of (setting plan all.wired) os)
+-- the orders that tell what is listed, in order, and the streams of the frames that they send
+abbrev pub Orders : Plan → Listed → List Order → List ℕ → Type 0
+Orders plan all orders sends =
+    (os : List Occasion) × AreInOrder all.occasions os × (orders ≡ (told_of (setting plan all.wired) os).orders) × (sends ≡ (told_of (setting plan all.wired) os).sends)
 
--- the nodes, the topology and the capacity of a plan, and the orders that tell what is listed, in order
+-- the nodes, the topology and the capacity of a plan, the orders that tell what is listed, in order, and the plan's streams by their names
 pub record Tells (plan : Plan) (all : Listed) (m : Meaning) : Type 0 where
   pub nodes : m.nodes ≡ all.wired.nodes
   pub topology : m.topology ≡ all.wired.topology
   pub capacity : m.capacity ≡ plan.outline.capacity
-  pub orders : Orders plan all m.orders
+  pub orders : Orders plan all m.orders m.sends
+  pub streams : m.streams ≡ stream_names plan.streams
 
 -- P of what is listed in a plan, where that is no fault
 abbrev pub IfListed : Result Listed PlanFault → (Listed → Type 0) → Type 0

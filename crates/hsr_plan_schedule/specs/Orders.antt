@@ -21,7 +21,7 @@ use Rattle.hsr_plan_schedule.specs.declared.occasion.Sender.{Sender}
 use Rattle.hsr_plan_schedule.specs.declared.occasion.Sent.{Sent}
 
 -- what was told so far: the moment, which nodes are off, which links are cut by an event, whether something was sent since the
--- last drain, and what was heard of stations
+-- last drain, what was heard of stations, the orders, and of each frame that they send the number of its stream
 pub record Told : Type 0 where
   pub now : ℕ
   pub off : List Bool
@@ -29,6 +29,7 @@ pub record Told : Type 0 where
   pub sent : Bool
   pub heard : Heard
   pub orders : List Order
+  pub sends : List ℕ
 
 abbrev pub flag : List Bool → ℕ → Bool
 flag bs k = unwrap_or (slice_get bs k) false
@@ -140,9 +141,13 @@ abbrev pub name_if : Option (List ℕ) → List ℕ
 name_if None = []
 name_if (Some name) = name
 
+-- a frame is from the stream of that number
+abbrev pub from_stream : ℕ → Told → Told
+from_stream i told = record told { sends = told.sends ++ i ∷ [] }
+
 abbrev pub send_if : Setting → Option Stream → Sent → Told → Told
 send_if g None sent told = told
-send_if g (Some stream) sent told = sending g.moves (named_send stream sent (name_if (slice_get stream.from sent.index))) (hear g sent.sender told)
+send_if g (Some stream) sent told = sending g.moves (named_send stream sent (name_if (slice_get stream.from sent.index))) (from_stream sent.stream (hear g sent.sender told))
 
 -- ---- all
 
@@ -171,7 +176,8 @@ start g = record {
   sent = false;
   heard = nothing_heard g.nodes;
   orders = [];
+  sends = [];
 }
 
-abbrev pub orders_of : Setting → List Occasion → List Order
-orders_of g os = (drained (tell_all g (start g) os)).orders
+abbrev pub told_of : Setting → List Occasion → Told
+told_of g os = drained (tell_all g (start g) os)

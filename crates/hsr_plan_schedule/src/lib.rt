@@ -10,6 +10,7 @@
 //! - `occasions`: all that happens in a plan
 //! - `setting`: where the occasions of a plan take place
 //! - `hearing`: what RedBoxes hear of the stations behind them
+//! - `naming`: the names of a plan's streams
 //! - `orders`: the orders of a scenario that tell what happens in a plan
 //! - `meaning`: what a plan means
 #![tactic(auto)]
@@ -19,6 +20,7 @@ mod events;
 mod hearing;
 mod lives;
 mod meaning;
+mod naming;
 mod occasion;
 mod occasions;
 mod orders;

@@ -4,28 +4,32 @@ ghost use Rattle.hsr_plan_text.specs.Fallible.{FailsAt, GivesAt, at_spot};
 ghost use Rattle.hsr_plan_text.specs.declared.fault.Spot.TheVariants as spot;
 ghost use Rattle.hsr_plan_network.specs.Wiring.{wired};
 ghost use Rattle.hsr_plan_schedule.specs.Meaning.{AreInOrder, Means, Tells, listed, setting};
-ghost use Rattle.hsr_plan_schedule.specs.Orders.{orders_of};
+ghost use Rattle.hsr_plan_schedule.specs.Orders.{told_of};
 ghost use Rattle.hsr_plan_text.specs.declared.fault.What.TheVariants.{NoMemory as NoRoom};
 
+use crate::naming::stream_names;
 use crate::occasion::Occasion;
 use crate::occasions::{at_spot, occasions};
-use crate::orders::orders_of;
+use crate::orders::{Told, told_of};
 use crate::setting::Setting;
 use hsr_frame::NoMemory;
 use hsr_plan_network::{Node, Wired, wire};
-use hsr_plan_text::{Plan, PlanFault, Spot, What};
+use hsr_plan_text::{Plan, PlanFault, Spot, What, Word};
 use hsr_scenario::Order;
 use hsr_topology::Topology;
 use std::alloc::Global;
 use std::marker::Model;
 
-/// What a plan means: its nodes with their names, the topology, how many copies wait in each direction of a link, and the orders.
+/// What a plan means: its nodes with their names, the topology, how many copies wait in each direction of a link, and the orders; the
+/// names of the plan's streams, and of each frame that the orders send, in their order, the number of its stream.
 #[derive(Debug, Drop)]
 pub struct Meaning {
     pub nodes: Vec<Node>,
     pub topology: Topology,
     pub capacity: usize,
     pub orders: Vec<Order>,
+    pub streams: Vec<Word>,
+    pub sends: Vec<usize>,
 }
 
 impl Model for Meaning {
@@ -33,7 +37,7 @@ impl Model for Meaning {
 
     ghost Value = { Meaning };
 
-    ghost view = { λ m. record { nodes = m.nodes.items; topology = m.topology; capacity = m.capacity; orders = m.orders.items } };
+    ghost view = { λ m. record { nodes = m.nodes.items; topology = m.topology; capacity = m.capacity; orders = m.orders.items; streams = m.streams.items; sends = m.sends.items } };
 }
 
 /// Sorts occasions by their moments.
@@ -77,14 +81,14 @@ fn all_listed(alloc: Global, plan: &Plan) -> Result<Listed, PlanFault>
     Ok(Listed { wired, occasions })
 }
 
-/// The orders that tell occasions of a plan.
-fn orders_of_plan(
+/// What is told of occasions of a plan.
+fn told_of_plan(
     alloc: Global,
     plan: &Plan,
     wired: &Wired,
     occasions: &[Occasion],
-) -> Result<Vec<Order>, NoMemory>
-    ensures { IfOk result (λ v. v.items ≡ orders_of (setting plan.now wired.now) occasions.now) }
+) -> Result<Told, NoMemory>
+    ensures { IfOk result (λ told. told ≡ told_of (setting plan.now wired.now) occasions.now) }
 {
     let setting = Setting {
         moves: plan.outline.moves,
@@ -93,7 +97,7 @@ fn orders_of_plan(
         links: wired.topology.links(),
         streams: plan.streams.as_slice(),
     };
-    orders_of(alloc, &setting, occasions)
+    told_of(alloc, &setting, occasions)
 }
 
 /// The orders that tell what is listed in a plan, in order.
@@ -104,12 +108,15 @@ fn told_in_order(alloc: Global, plan: &Plan, listed: Listed) -> Result<Meaning, 
     // Listed and in order are two functions, so that each owns one list that it may have to drop.
     let mut occasions = listed.occasions;
     sort(&mut occasions)?;
-    let orders = orders_of_plan(alloc, plan, &wired, occasions.as_slice())?;
+    let streams = stream_names(alloc, plan.streams.as_slice())?;
+    let told = told_of_plan(alloc, plan, &wired, occasions.as_slice())?;
     Ok(Meaning {
         nodes: wired.nodes,
         topology: wired.topology,
         capacity: plan.outline.capacity,
-        orders,
+        orders: told.orders,
+        streams,
+        sends: told.sends,
     })
 }
 

@@ -1,6 +1,6 @@
 //! The orders of a scenario that tell what happens in a plan.
 ghost use Rattle.std.specs.Prelude.{◌≡◌, ◌++◌, slice_get, slice_set, IfOk, OnOk};
-ghost use Rattle.hsr_plan_schedule.specs.Orders.{change, changed, changes, clocked, comes, downs, drain, drained, ends_off, flag, happens, hear, hear_on, is_down, is_to_speak, live, name_if, named_send, orders_of, send_if, sending, speak, speak_of, start, tell_occasion, tell_all, type_of};
+ghost use Rattle.hsr_plan_schedule.specs.Orders.{change, changed, changes, clocked, comes, downs, drain, drained, ends_off, flag, from_stream, happens, hear, hear_on, is_down, is_to_speak, live, name_if, named_send, send_if, sending, speak, speak_of, start, tell_occasion, tell_all, told_of, type_of};
 
 use crate::hearing::{Heard, interlink_to, macs_behind};
 use crate::occasion::{Happening, Occasion, Sender, Sent};
@@ -22,7 +22,7 @@ const SIZE_LIMIT: usize = 65536;
 const STATE_LIMIT: usize = 1 << 32;
 
 /// What was told so far: the moment, which nodes are off, which links are cut by an event, whether something was sent since the last
-/// drain, what was heard of stations, and the orders.
+/// drain, what was heard of stations, the orders, and of each frame that they send the number of its stream.
 #[derive(Drop)]
 pub(crate) struct Told {
     now: u64,
@@ -30,7 +30,8 @@ pub(crate) struct Told {
     cut: Vec<bool>,
     sent: bool,
     heard: Heard,
-    orders: Vec<Order>,
+    pub(crate) orders: Vec<Order>,
+    pub(crate) sends: Vec<usize>,
 }
 
 impl Model for Told {
@@ -38,7 +39,7 @@ impl Model for Told {
 
     ghost Value = { Told };
 
-    ghost view = { λ t. record { now = t.now; off = t.off.items; cut = t.cut.items; sent = t.sent; heard = t.heard; orders = t.orders.items } };
+    ghost view = { λ t. record { now = t.now; off = t.off.items; cut = t.cut.items; sent = t.sent; heard = t.heard; orders = t.orders.items; sends = t.sends.items } };
 }
 
 /// The flag of that number; `false` where there is none.
@@ -203,6 +204,7 @@ impl Told {
             sent: false,
             heard,
             orders: Vec::new(alloc),
+            sends: Vec::new(alloc),
         })
     }
 
@@ -360,6 +362,14 @@ impl Told {
 
     // ---- all
 
+    /// Notes the stream of the frame that is sent next.
+    fn from_stream(&mut self, number: usize) -> Result<(), NoMemory>
+        ensures { OnOk result (self.new ≡ from_stream number self.old) }
+    {
+        self.sends.push(number)?;
+        Ok(())
+    }
+
     /// Tells a frame of a stream.
     fn send_stream(
         &mut self,
@@ -370,12 +380,17 @@ impl Told {
         ensures { OnOk result (self.new ≡ send_if setting.now
             (slice_get setting.now.streams sent.stream) sent self.old) }
     {
-        let sender = sent.sender;
-        match setting.streams.get(sent.stream) {
+        let Sent {
+            stream: number,
+            sender,
+            ..
+        } = sent;
+        match setting.streams.get(number) {
             Some(stream) => {
                 // Room for the order comes first, so that nothing is heard of a frame that isn't sent.
                 let order = named_send(alloc, stream, sent)?;
                 self.hear(setting, sender)?;
+                self.from_stream(number)?;
                 self.send(setting.moves, order)
             }
             None => Ok(()),
@@ -442,17 +457,17 @@ fn tell_all(
     Ok(())
 }
 
-/// The orders that tell occasions.
-pub(crate) fn orders_of(
+/// What is told of occasions.
+pub(crate) fn told_of(
     alloc: Global,
     setting: &Setting<'_>,
     occasions: &[Occasion],
-) -> Result<Vec<Order>, NoMemory>
-    ensures { IfOk result (λ v. v.items ≡ orders_of setting.now occasions.now) }
+) -> Result<Told, NoMemory>
+    ensures { IfOk result (λ told. told ≡ told_of setting.now occasions.now) }
 {
     let mut told = Told::start(alloc, setting)?;
     tell_all(alloc, &mut told, setting, occasions)?;
     // What was sent at the last moment comes to its end too.
     told.drain_sent()?;
-    Ok(told.orders)
+    Ok(told)
 }

@@ -4,6 +4,7 @@ use Rattle.std.specs.Fmt.{decimal}
 use Rattle.hsr_node.specs.Words.{letter}
 use Rattle.hsr_topology.specs.declared.end.End.{End}
 use Rattle.hsr_plan_network.specs.Nodes.{Node}
+use Rattle.hsr_naming.specs.declared.naming.Naming.TheVariants.{Numbers}
 use Rattle.hsr_report.specs.Report.{finding_line}
 use Rattle.hsr_plan_sweep.specs.Sweep.{Sweep}
 use Rattle.hsr_plan_sweep.specs.declared.counting.Count.{Count}
@@ -18,7 +19,7 @@ sends_text count =
 
 -- and how many table entries it needed, and what the audit of networks found, in the words of a report
 abbrev pub count_text : Count → List ℕ
-count_text count = sends_text count ++ codes " needed " ++ decimal count.needed ++ codes " " ++ finding_line count.finding
+count_text count = sends_text count ++ codes " needed " ++ decimal count.needed ++ codes " " ++ finding_line Numbers count.finding
 
 -- ---- what was off
 

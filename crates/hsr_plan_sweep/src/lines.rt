@@ -5,6 +5,7 @@ ghost use Rattle.hsr_plan_sweep.specs.Lines.{count_text, counted, end_text, ends
 use crate::counting::Count;
 use crate::sweep::Sweep;
 use hsr_frame::NoMemory;
+use hsr_naming::Naming;
 use hsr_node_text::put_count;
 use hsr_plan_network::Node;
 use hsr_report::put_finding;
@@ -29,7 +30,7 @@ fn put_counted(text: &mut Vec<u8>, count: &Count) -> Result<(), NoMemory>
     put_sends(text, count)?;
     put_count(text, b" needed ", count.needed as u64)?;
     text.extend_from_slice(b" ")?;
-    put_finding(text, count.finding)
+    put_finding(text, &Naming::Numbers, count.finding)
 }
 
 /// Puts a space and the name of the node of that number.

@@ -10,10 +10,8 @@ use Rattle.hsr_audit.specs.Doubts.{IsFirst, of_network, of_ring}
 use Rattle.hsr_audit.specs.NetworkCertificate.{IsNetworkCertified}
 use Rattle.hsr_audit.specs.declared.breach.BudgetFault.TheVariants as breach
 use Rattle.hsr_deliveries.specs.Delivered.{Delivery, deliveries}
-use Rattle.hsr_deliveries.specs.Lines.{delivery_lines}
 use Rattle.hsr_latency.specs.Latencies.{latencies}
-use Rattle.hsr_latency.specs.Lines.{latency_lines}
-use Rattle.hsr_load.specs.Lines.{TellsLoad}
+use Rattle.hsr_naming.specs.declared.naming.Naming.{Naming}
 use Rattle.hsr_run_laws.specs.Budget.{IsBudgetHeld}
 use Rattle.hsr_run_laws.specs.Run.{Run}
 use Rattle.hsr_table_demand.specs.Needs.{IsMost as IsMostNeeded}
@@ -21,6 +19,9 @@ use Rattle.hsr_table_demand.specs.declared.most.Needed.{Needed}
 use Rattle.hsr_options.specs.declared.chosen.Asked.{Asked}
 use Rattle.hsr_options.specs.declared.chosen.Scope.{Scope}
 use Rattle.hsr_options.specs.declared.chosen.Scope.TheVariants.{Ring, Network}
+use Rattle.hsr_report.specs.DeliveryLines.{delivery_lines}
+use Rattle.hsr_report.specs.LatencyLines.{latency_lines}
+use Rattle.hsr_report.specs.LoadLines.{TellsLoad}
 use Rattle.hsr_report.specs.Report.{needed_line, report, spending_line}
 use Rattle.hsr_report.specs.declared.finding.Finding.{Finding}
 use Rattle.hsr_report.specs.declared.finding.Finding.TheVariants as finding
@@ -43,24 +44,24 @@ IsSpending run (Crowded moment) = IsFirstBreach run (breach.Crowded moment)
 -- ---- the parts that are asked for
 
 -- how long sends took
-abbrev pub TellsLatency : Run → List ℕ → Type 0
-TellsLatency run text = text ≡ latency_lines (latencies run)
+abbrev pub TellsLatency : Naming → Run → List ℕ → Type 0
+TellsLatency naming run text = text ≡ latency_lines naming (latencies run)
 
 -- who got each send
-abbrev pub TellsDeliveries : Run → List ℕ → Type 0
-TellsDeliveries run text = text ≡ delivery_lines (deliveries run)
+abbrev pub TellsDeliveries : Naming → Run → List ℕ → Type 0
+TellsDeliveries naming run text = text ≡ delivery_lines naming (deliveries run)
 
 -- how many entries were needed, and where first
-pub record TellsNeeded (run : Run) (text : List ℕ) : Type 0 where
+pub record TellsNeeded (naming : Naming) (run : Run) (text : List ℕ) : Type 0 where
   pub needed : Needed
   pub most : IsMostNeeded run needed
-  pub line : text ≡ needed_line needed
+  pub line : text ≡ needed_line naming needed
 
 -- what was spent of the tables
-pub record TellsBudget (run : Run) (text : List ℕ) : Type 0 where
+pub record TellsBudget (naming : Naming) (run : Run) (text : List ℕ) : Type 0 where
   pub spent : Spending
   pub is_spent : IsSpending run spent
-  pub line : text ≡ spending_line spent
+  pub line : text ≡ spending_line naming spent
 
 -- a part of a report tells this, where it is asked for; else there is none
 abbrev pub IsPart : Bool → (List ℕ → Type 0) → List ℕ → Type 0
@@ -68,23 +69,23 @@ IsPart false Tells text = text ≡ []
 IsPart true Tells text = Tells text
 
 -- the parts that are asked for, one behind the other
-pub record TellsAsked (asked : Asked) (run : Run) (text : List ℕ) : Type 0 where
+pub record TellsAsked (naming : Naming) (asked : Asked) (run : Run) (text : List ℕ) : Type 0 where
   pub load : List ℕ
   pub latency : List ℕ
   pub deliveries : List ℕ
   pub needed : List ℕ
   pub budget : List ℕ
-  pub of_load : IsPart asked.load (TellsLoad run) load
-  pub of_latency : IsPart asked.latency (TellsLatency run) latency
-  pub of_deliveries : IsPart asked.deliveries (TellsDeliveries run) deliveries
-  pub of_needed : IsPart asked.needed (TellsNeeded run) needed
-  pub of_budget : IsPart asked.budget (TellsBudget run) budget
+  pub of_load : IsPart asked.load (TellsLoad naming run) load
+  pub of_latency : IsPart asked.latency (TellsLatency naming run) latency
+  pub of_deliveries : IsPart asked.deliveries (TellsDeliveries naming run) deliveries
+  pub of_needed : IsPart asked.needed (TellsNeeded naming run) needed
+  pub of_budget : IsPart asked.budget (TellsBudget naming run) budget
   pub all : text ≡ load ++ latency ++ deliveries ++ needed ++ budget
 
 -- ---- the report
 
--- of a run of which the chosen audit found this, with the parts that are asked for
-pub record IsReportOf (scope : Scope) (asked : Asked) (run : Run) (found : Finding) (text : List ℕ) : Type 0 where
+-- of a run of which the chosen audit found this, with the parts that are asked for, by this naming
+pub record IsReportOf (naming : Naming) (scope : Scope) (asked : Asked) (run : Run) (found : Finding) (text : List ℕ) : Type 0 where
   pub parts : List ℕ
-  pub are_parts : TellsAsked asked run parts
-  pub is_report : text ≡ report scope run found parts
+  pub are_parts : TellsAsked naming asked run parts
+  pub is_report : text ≡ report naming scope run found parts

@@ -1,17 +1,17 @@
 //! What an audit of a run found.
-ghost use Rattle.std.specs.Prelude.{◌≡◌, ◌++◌, codes, IfOk, OnOk};
-ghost use Rattle.hsr_audit.specs.Words.{doubt_text};
+ghost use Rattle.std.specs.Prelude.{◌≡◌, ◌++◌, IfOk, OnOk};
 ghost use Rattle.hsr_report.specs.Found.{IsFound};
+ghost use Rattle.hsr_audit.specs.declared.doubt.Doubt.TheVariants.{CutOff};
 ghost use Rattle.hsr_options.specs.declared.chosen.Scope.TheVariants.{Network, Ring};
-ghost use Rattle.hsr_report.specs.Report.{finding_line};
+ghost use Rattle.hsr_report.specs.Report.{at_text, doubt_text, finding_line};
 
 use hsr_audit::{AuditFault, Doubt, audit, audit_network};
 use hsr_finished_run::Closed;
 use hsr_frame::NoMemory;
-use hsr_node_text::put_count;
+use hsr_naming::Naming;
 use hsr_options::Scope;
+use hsr_text::{put, put_count};
 use std::alloc::Global;
-use std::io::Write;
 
 /// What an audit of a run found: how many sends are certified, or the first doubt.
 #[derive(Clone, Copy, Debug, PartialEq, Eq)]
@@ -56,26 +56,74 @@ pub fn found<const C: usize>(
     }
 }
 
-/// Puts a doubt in its own words.
-fn put_doubt(text: &mut Vec<u8>, doubt: Doubt) -> Result<(), NoMemory>
-    ensures { OnOk result (text.new.items ≡ text.old.items ++ codes "doubt " ++ doubt_text doubt) }
+/// Puts a word, and the entry that it names.
+fn put_at(
+    text: &mut Vec<u8>,
+    naming: &Naming,
+    word: &str,
+    node: usize,
+    place: usize,
+) -> Result<(), NoMemory>
+    ensures { OnOk result (text.new.items ≡ text.old.items
+        ++ at_text naming.now word.now node place) }
 {
-    // A list of octets refuses a write for memory alone.
-    match write!(text, "doubt {doubt}") {
-        Ok(()) => Ok(()),
-        Err(_) => Err(NoMemory),
+    put(text, word)?;
+    naming.put_entry(text, node, place)
+}
+
+/// Puts a word, the entry of a send, and the node that the send doesn't come to.
+fn put_cut_off(
+    text: &mut Vec<u8>,
+    naming: &Naming,
+    node: usize,
+    place: usize,
+    receiver: usize,
+) -> Result<(), NoMemory>
+    ensures { OnOk result (text.new.items ≡ text.old.items
+        ++ doubt_text naming.now (CutOff node place receiver)) }
+{
+    put_at(text, naming, "cut-off ", node, place)?;
+    put(text, " ")?;
+    naming.put_node(text, receiver)
+}
+
+/// Puts a doubt in its own words.
+fn put_doubt(text: &mut Vec<u8>, naming: &Naming, doubt: Doubt) -> Result<(), NoMemory>
+    ensures { OnOk result (text.new.items ≡ text.old.items ++ doubt_text naming.now doubt) }
+{
+    match doubt {
+        Doubt::NotRing => put(text, "not-ring"),
+        Doubt::Empty => put(text, "empty"),
+        Doubt::Mode => put(text, "mode"),
+        Doubt::SameAddress => put(text, "same-address"),
+        Doubt::Side { link } => put_count(text, b"side ", link as u64),
+        Doubt::TwoLinks => put(text, "two-links"),
+        Doubt::Forgot { node, place } => put_at(text, naming, "forgot ", node, place),
+        Doubt::Mistaken { node, place } => put_at(text, naming, "mistaken ", node, place),
+        Doubt::NumberedLate { node, place } => put_at(text, naming, "numbered-late ", node, place),
+        Doubt::CutOff {
+            node,
+            place,
+            receiver,
+        } => put_cut_off(text, naming, node, place, receiver),
+        Doubt::UnknownStation { node, place } => {
+            put_at(text, naming, "unknown-station ", node, place)
+        }
+        Doubt::Uncovered { node, place } => put_at(text, naming, "uncovered ", node, place),
     }
 }
 
-/// Puts the last line of a report: how many sends are certified, or the doubt. `NoMemory` if allocation fails; a
-/// front of the line may stand there then.
-pub fn put_finding(text: &mut Vec<u8>, finding: Finding) -> Result<(), NoMemory>
-    ensures { OnOk result (text.new.items ≡ text.old.items ++ finding_line finding) }
+/// Puts the last line of a report: how many sends are certified, or the doubt, a word and what it names: a link, or an entry, and
+/// for a cut the node that the send doesn't come to. `NoMemory` if allocation fails; a front of the line may stand there then.
+pub fn put_finding(text: &mut Vec<u8>, naming: &Naming, finding: Finding) -> Result<(), NoMemory>
+    ensures { OnOk result (text.new.items ≡ text.old.items ++ finding_line naming.now finding) }
 {
     match finding {
         Finding::Certified(sends) => put_count(text, b"certified ", sends as u64)?,
-        Finding::Doubt(doubt) => put_doubt(text, doubt)?,
+        Finding::Doubt(doubt) => {
+            put(text, "doubt ")?;
+            put_doubt(text, naming, doubt)?;
+        }
     }
-    text.extend_from_slice(b"\n")?;
-    Ok(())
+    put(text, "\n")
 }

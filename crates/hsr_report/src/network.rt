@@ -10,10 +10,11 @@ ghost use Rattle.hsr_report.specs.Report.{is_unlinked, network_lines, nobody_if,
 use hsr_deliveries::{Delivery, deliveries};
 use hsr_finished_run::Closed;
 use hsr_frame::NoMemory;
+use hsr_naming::Naming;
 use hsr_node::{Place, Probe};
-use hsr_node_text::put_count;
 use hsr_options::Scope;
 use hsr_reach::is_edge;
+use hsr_text::put;
 use hsr_topology::{End, is_used};
 use std::alloc::Global;
 
@@ -29,6 +30,7 @@ fn is_unlinked<const C: usize>(closed: &Closed<C>, node: usize, place: &Place, p
 #[tactic(auto, unfolding(crate::specs::Report::unlinked_line))]
 fn put_unlinked<const C: usize>(
     text: &mut Vec<u8>,
+    naming: &Naming,
     closed: &Closed<C>,
     node: usize,
     place: &Place,
@@ -36,9 +38,10 @@ fn put_unlinked<const C: usize>(
 ) -> Result<(), NoMemory>
     requires { place.now ≡ place_of closed.now.run node }
     ensures { OnOk result (text.new.items ≡ text.old.items
-        ++ unlinked_line closed.now.run node port) }
+        ++ unlinked_line naming.now closed.now.run node port) }
 {
-    put_count(text, b"unlinked ", node as u64)?;
+    put(text, "unlinked ")?;
+    naming.put_node(text, node)?;
     text.extend_from_slice(&[b'.', place.letter(port), b'\n'])?;
     Ok(())
 }
@@ -46,6 +49,7 @@ fn put_unlinked<const C: usize>(
 /// Puts the line of a port, if it is on a ring and has no link.
 fn put_unlinked_if<const C: usize>(
     text: &mut Vec<u8>,
+    naming: &Naming,
     closed: &Closed<C>,
     node: usize,
     place: &Place,
@@ -53,10 +57,10 @@ fn put_unlinked_if<const C: usize>(
 ) -> Result<(), NoMemory>
     requires { place.now ≡ place_of closed.now.run node }
     ensures { OnOk result (text.new.items ≡ text.old.items
-        ++ unlinked_if closed.now.run node port) }
+        ++ unlinked_if naming.now closed.now.run node port) }
 {
     if is_unlinked(closed, node, place, port) {
-        put_unlinked(text, closed, node, place, port)
+        put_unlinked(text, naming, closed, node, place, port)
     } else {
         Ok(())
     }
@@ -65,48 +69,52 @@ fn put_unlinked_if<const C: usize>(
 /// Puts the lines of a node's ports on rings that have no link.
 fn put_unlinked_ports<const C: usize>(
     text: &mut Vec<u8>,
+    naming: &Naming,
     closed: &Closed<C>,
     node: usize,
     place: &Place,
 ) -> Result<(), NoMemory>
     requires { place.now ≡ place_of closed.now.run node }
-    ensures { OnOk result (text.new.items ≡ text.old.items ++ unlinked_ports closed.now.run node
-        (ports place.now)) }
+    ensures { OnOk result (text.new.items ≡ text.old.items
+        ++ unlinked_ports naming.now closed.now.run node (ports place.now)) }
 {
     for port in 0..place.ports() {
-        put_unlinked_if(text, closed, node, place, port)?;
+        put_unlinked_if(text, naming, closed, node, place, port)?;
     }
     Ok(())
 }
 
 /// Puts the lines of all ports on rings that have no link.
-fn put_all_unlinked<const C: usize>(text: &mut Vec<u8>, closed: &Closed<C>) -> Result<(), NoMemory>
-    ensures { OnOk result (text.new.items ≡ text.old.items ++ unlinked_lines closed.now.run
-        (length closed.now.run.places)) }
+fn put_all_unlinked<const C: usize>(
+    text: &mut Vec<u8>,
+    naming: &Naming,
+    closed: &Closed<C>,
+) -> Result<(), NoMemory>
+    ensures { OnOk result (text.new.items ≡ text.old.items
+        ++ unlinked_lines naming.now closed.now.run (length closed.now.run.places)) }
 {
     for (node, place) in closed.topology().places().iter().enumerate() {
-        put_unlinked_ports(text, closed, node, place)?;
+        put_unlinked_ports(text, naming, closed, node, place)?;
     }
     Ok(())
 }
 
 /// Puts the line of a send that no node is for.
 #[tactic(auto, unfolding(crate::specs::Report::nobody_line))]
-fn put_nobody(text: &mut Vec<u8>, send: Probe) -> Result<(), NoMemory>
-    ensures { OnOk result (text.new.items ≡ text.old.items ++ nobody_line send) }
+fn put_nobody(text: &mut Vec<u8>, naming: &Naming, send: Probe) -> Result<(), NoMemory>
+    ensures { OnOk result (text.new.items ≡ text.old.items ++ nobody_line naming.now send) }
 {
-    put_count(text, b"nobody ", send.node as u64)?;
-    put_count(text, b":", send.place as u64)?;
-    text.extend_from_slice(b"\n")?;
-    Ok(())
+    put(text, "nobody ")?;
+    naming.put_send(text, send)?;
+    put(text, "\n")
 }
 
 /// Puts the line of a send, if no node is for it.
-fn put_nobody_if(text: &mut Vec<u8>, delivery: &Delivery) -> Result<(), NoMemory>
-    ensures { OnOk result (text.new.items ≡ text.old.items ++ nobody_if delivery.now) }
+fn put_nobody_if(text: &mut Vec<u8>, naming: &Naming, delivery: &Delivery) -> Result<(), NoMemory>
+    ensures { OnOk result (text.new.items ≡ text.old.items ++ nobody_if naming.now delivery.now) }
 {
     if delivery.due.is_empty() {
-        put_nobody(text, delivery.send)
+        put_nobody(text, naming, delivery.send)
     } else {
         Ok(())
     }
@@ -114,11 +122,11 @@ fn put_nobody_if(text: &mut Vec<u8>, delivery: &Delivery) -> Result<(), NoMemory
 
 /// Puts the lines of those sends that no node is for.
 #[tactic(auto, using(hsr_frame::proofs::OneMore::grown))]
-fn put_nobodies(text: &mut Vec<u8>, sends: &[Delivery]) -> Result<(), NoMemory>
-    ensures { OnOk result (text.new.items ≡ text.old.items ++ flat_map nobody_if sends.now) }
+fn put_nobodies(text: &mut Vec<u8>, naming: &Naming, sends: &[Delivery]) -> Result<(), NoMemory>
+    ensures { OnOk result (text.new.items ≡ text.old.items ++ flat_map (nobody_if naming.now) sends.now) }
 {
     for delivery in sends {
-        put_nobody_if(text, delivery)?;
+        put_nobody_if(text, naming, delivery)?;
     }
     Ok(())
 }
@@ -127,13 +135,14 @@ fn put_nobodies(text: &mut Vec<u8>, sends: &[Delivery]) -> Result<(), NoMemory>
 fn put_all_nobodies<const C: usize>(
     alloc: Global,
     text: &mut Vec<u8>,
+    naming: &Naming,
     closed: &Closed<C>,
 ) -> Result<(), NoMemory>
     ensures { OnOk result (text.new.items ≡ text.old.items
-        ++ flat_map nobody_if (deliveries closed.now.run)) }
+        ++ flat_map (nobody_if naming.now) (deliveries closed.now.run)) }
 {
     let deliveries = deliveries(alloc, closed)?;
-    put_nobodies(text, deliveries.sends.as_slice())?;
+    put_nobodies(text, naming, deliveries.sends.as_slice())?;
     Ok(())
 }
 
@@ -142,18 +151,19 @@ fn put_all_nobodies<const C: usize>(
 pub fn put_network<const C: usize>(
     alloc: Global,
     text: &mut Vec<u8>,
+    naming: &Naming,
     closed: &Closed<C>,
     scope: Scope,
 ) -> Result<(), NoMemory>
-    ensures { OnOk result (text.new.items ≡ text.old.items ++ network_lines scope closed.now.run) }
+    ensures { OnOk result (text.new.items ≡ text.old.items ++ network_lines naming.now scope closed.now.run) }
 {
     match scope {
         // Without `--network` a report has the agreed lines alone.
         Scope::Ring => Ok(()),
         Scope::Network => {
             // Of doubted runs too: who reads of a doubt looks for just that.
-            put_all_unlinked(text, closed)?;
-            put_all_nobodies(alloc, text, closed)
+            put_all_unlinked(text, naming, closed)?;
+            put_all_nobodies(alloc, text, naming, closed)
         }
     }
 }

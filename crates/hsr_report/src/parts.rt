@@ -1,65 +1,90 @@
 //! The parts of a report that are asked for.
 ghost use Rattle.std.specs.Prelude.{IfOk};
-ghost use Rattle.hsr_load.specs.Lines.{TellsLoad};
+ghost use Rattle.hsr_report.specs.LoadLines.{TellsLoad};
 ghost use Rattle.hsr_report.specs.Found.{IsPart, TellsAsked, TellsBudget, TellsDeliveries, TellsLatency, TellsNeeded};
 
+use crate::delivery_lines::put_deliveries;
+use crate::latency_lines::put_latency;
+use crate::load_lines::put_load;
 use crate::needs::put_needed;
 use crate::spending::{put_spending, spending_of};
-use hsr_audit::{deliveries, needed, put_deliveries};
+use hsr_audit::needed;
+use hsr_deliveries::deliveries;
 use hsr_finished_run::Closed;
 use hsr_frame::NoMemory;
-use hsr_latency::{latency_of, put_latency};
-use hsr_load::{load_of, put_load};
+use hsr_latency::latency_of;
+use hsr_load::load_of;
+use hsr_naming::Naming;
 use hsr_options::Asked;
 use std::alloc::Global;
 
 /// The lines of load.
-fn load_text<const C: usize>(alloc: Global, closed: &Closed<C>) -> Result<Vec<u8>, NoMemory>
-    ensures { IfOk result (λ text. TellsLoad closed.now.run text.items) }
+fn load_text<const C: usize>(
+    alloc: Global,
+    closed: &Closed<C>,
+    naming: &Naming,
+) -> Result<Vec<u8>, NoMemory>
+    ensures { IfOk result (λ text. TellsLoad naming.now closed.now.run text.items) }
 {
     let load = load_of(alloc, closed)?;
     let mut text = Vec::new(alloc);
-    put_load(&mut text, closed.topology().places(), &load)?;
+    put_load(&mut text, naming, closed.topology().places(), &load)?;
     Ok(text)
 }
 
 /// The lines of latency.
-fn latency_text<const C: usize>(alloc: Global, closed: &Closed<C>) -> Result<Vec<u8>, NoMemory>
-    ensures { IfOk result (λ text. TellsLatency closed.now.run text.items) }
+fn latency_text<const C: usize>(
+    alloc: Global,
+    closed: &Closed<C>,
+    naming: &Naming,
+) -> Result<Vec<u8>, NoMemory>
+    ensures { IfOk result (λ text. TellsLatency naming.now closed.now.run text.items) }
 {
     let latency = latency_of(alloc, closed)?;
     let mut text = Vec::new(alloc);
-    put_latency(&mut text, &latency)?;
+    put_latency(&mut text, naming, &latency)?;
     Ok(text)
 }
 
 /// The lines of deliveries.
-fn deliveries_text<const C: usize>(alloc: Global, closed: &Closed<C>) -> Result<Vec<u8>, NoMemory>
-    ensures { IfOk result (λ text. TellsDeliveries closed.now.run text.items) }
+fn deliveries_text<const C: usize>(
+    alloc: Global,
+    closed: &Closed<C>,
+    naming: &Naming,
+) -> Result<Vec<u8>, NoMemory>
+    ensures { IfOk result (λ text. TellsDeliveries naming.now closed.now.run text.items) }
 {
     let deliveries = deliveries(alloc, closed)?;
     let mut text = Vec::new(alloc);
-    put_deliveries(alloc, &mut text, &deliveries)?;
+    put_deliveries(alloc, &mut text, naming, &deliveries)?;
     Ok(text)
 }
 
 /// The line of how many entries were needed.
-fn needed_text<const C: usize>(alloc: Global, closed: &Closed<C>) -> Result<Vec<u8>, NoMemory>
-    ensures { IfOk result (λ text. TellsNeeded closed.now.run text.items) }
+fn needed_text<const C: usize>(
+    alloc: Global,
+    closed: &Closed<C>,
+    naming: &Naming,
+) -> Result<Vec<u8>, NoMemory>
+    ensures { IfOk result (λ text. TellsNeeded naming.now closed.now.run text.items) }
 {
     let needed = needed(alloc, closed)?;
     let mut text = Vec::new(alloc);
-    put_needed(&mut text, needed)?;
+    put_needed(&mut text, naming, needed)?;
     Ok(text)
 }
 
 /// The line of the budget.
-fn budget_text<const C: usize>(alloc: Global, closed: &Closed<C>) -> Result<Vec<u8>, NoMemory>
-    ensures { IfOk result (λ text. TellsBudget closed.now.run text.items) }
+fn budget_text<const C: usize>(
+    alloc: Global,
+    closed: &Closed<C>,
+    naming: &Naming,
+) -> Result<Vec<u8>, NoMemory>
+    ensures { IfOk result (λ text. TellsBudget naming.now closed.now.run text.items) }
 {
     let spending = spending_of(alloc, closed)?;
     let mut text = Vec::new(alloc);
-    put_spending(&mut text, spending)?;
+    put_spending(&mut text, naming, spending)?;
     Ok(text)
 }
 
@@ -67,12 +92,13 @@ fn budget_text<const C: usize>(alloc: Global, closed: &Closed<C>) -> Result<Vec<
 fn load_part<const C: usize>(
     alloc: Global,
     closed: &Closed<C>,
+    naming: &Naming,
     is_asked: bool,
 ) -> Result<Vec<u8>, NoMemory>
-    ensures { IfOk result (λ text. IsPart is_asked (TellsLoad closed.now.run) text.items) }
+    ensures { IfOk result (λ text. IsPart is_asked (TellsLoad naming.now closed.now.run) text.items) }
 {
     if is_asked {
-        load_text(alloc, closed)
+        load_text(alloc, closed, naming)
     } else {
         Ok(Vec::new(alloc))
     }
@@ -82,12 +108,13 @@ fn load_part<const C: usize>(
 fn latency_part<const C: usize>(
     alloc: Global,
     closed: &Closed<C>,
+    naming: &Naming,
     is_asked: bool,
 ) -> Result<Vec<u8>, NoMemory>
-    ensures { IfOk result (λ text. IsPart is_asked (TellsLatency closed.now.run) text.items) }
+    ensures { IfOk result (λ text. IsPart is_asked (TellsLatency naming.now closed.now.run) text.items) }
 {
     if is_asked {
-        latency_text(alloc, closed)
+        latency_text(alloc, closed, naming)
     } else {
         Ok(Vec::new(alloc))
     }
@@ -97,12 +124,13 @@ fn latency_part<const C: usize>(
 fn deliveries_part<const C: usize>(
     alloc: Global,
     closed: &Closed<C>,
+    naming: &Naming,
     is_asked: bool,
 ) -> Result<Vec<u8>, NoMemory>
-    ensures { IfOk result (λ text. IsPart is_asked (TellsDeliveries closed.now.run) text.items) }
+    ensures { IfOk result (λ text. IsPart is_asked (TellsDeliveries naming.now closed.now.run) text.items) }
 {
     if is_asked {
-        deliveries_text(alloc, closed)
+        deliveries_text(alloc, closed, naming)
     } else {
         Ok(Vec::new(alloc))
     }
@@ -112,12 +140,13 @@ fn deliveries_part<const C: usize>(
 fn needed_part<const C: usize>(
     alloc: Global,
     closed: &Closed<C>,
+    naming: &Naming,
     is_asked: bool,
 ) -> Result<Vec<u8>, NoMemory>
-    ensures { IfOk result (λ text. IsPart is_asked (TellsNeeded closed.now.run) text.items) }
+    ensures { IfOk result (λ text. IsPart is_asked (TellsNeeded naming.now closed.now.run) text.items) }
 {
     if is_asked {
-        needed_text(alloc, closed)
+        needed_text(alloc, closed, naming)
     } else {
         Ok(Vec::new(alloc))
     }
@@ -127,12 +156,13 @@ fn needed_part<const C: usize>(
 fn budget_part<const C: usize>(
     alloc: Global,
     closed: &Closed<C>,
+    naming: &Naming,
     is_asked: bool,
 ) -> Result<Vec<u8>, NoMemory>
-    ensures { IfOk result (λ text. IsPart is_asked (TellsBudget closed.now.run) text.items) }
+    ensures { IfOk result (λ text. IsPart is_asked (TellsBudget naming.now closed.now.run) text.items) }
 {
     if is_asked {
-        budget_text(alloc, closed)
+        budget_text(alloc, closed, naming)
     } else {
         Ok(Vec::new(alloc))
     }
@@ -143,15 +173,16 @@ fn budget_part<const C: usize>(
 pub fn parts<const C: usize>(
     alloc: Global,
     closed: &Closed<C>,
+    naming: &Naming,
     asked: Asked,
 ) -> Result<Vec<u8>, NoMemory>
-    ensures { IfOk result (λ text. TellsAsked asked closed.now.run text.items) }
+    ensures { IfOk result (λ text. TellsAsked naming.now asked closed.now.run text.items) }
 {
     // In this order, whatever order the flags have (RULES, The report).
-    let mut text = load_part(alloc, closed, asked.load)?;
-    text.extend_from_slice(latency_part(alloc, closed, asked.latency)?.as_slice())?;
-    text.extend_from_slice(deliveries_part(alloc, closed, asked.deliveries)?.as_slice())?;
-    text.extend_from_slice(needed_part(alloc, closed, asked.needed)?.as_slice())?;
-    text.extend_from_slice(budget_part(alloc, closed, asked.budget)?.as_slice())?;
+    let mut text = load_part(alloc, closed, naming, asked.load)?;
+    text.extend_from_slice(latency_part(alloc, closed, naming, asked.latency)?.as_slice())?;
+    text.extend_from_slice(deliveries_part(alloc, closed, naming, asked.deliveries)?.as_slice())?;
+    text.extend_from_slice(needed_part(alloc, closed, naming, asked.needed)?.as_slice())?;
+    text.extend_from_slice(budget_part(alloc, closed, naming, asked.budget)?.as_slice())?;
     Ok(text)
 }

@@ -12,9 +12,11 @@ use crate::parts::parts;
 use hsr_finished_run::Closed;
 use hsr_frame::{Counters, NoMemory};
 use hsr_link::{Fate, Row};
+use hsr_naming::Naming;
 use hsr_node::Role;
-use hsr_node_text::{put_count, put_counters};
+use hsr_node_text::put_counters;
 use hsr_options::{Asked, Scope};
+use hsr_text::{put, put_count};
 use std::alloc::Global;
 
 fn is_taken(row: &Row) -> bool
@@ -47,26 +49,27 @@ pub fn put_link(text: &mut Vec<u8>, link: usize, rows: &[Row]) -> Result<(), NoM
     put_count(text, b" put ", rows.len() as u64)?;
     put_count(text, b" taken ", taken_of(rows) as u64)?;
     put_count(text, b" lost ", lost_of(rows) as u64)?;
-    text.extend_from_slice(b"\n")?;
-    Ok(())
+    put(text, "\n")
 }
 
-/// Puts the line of a node: its number, its role, and how often each thing happened there. `NoMemory` if allocation
+/// Puts the line of a node: what it is called, its role, and how often each thing happened there. `NoMemory` if allocation
 /// fails; a front of the line may stand there then.
 #[tactic(auto, unfolding(crate::specs::Report::node_text))]
 pub fn put_node(
     text: &mut Vec<u8>,
+    naming: &Naming,
     node: usize,
     role: Role,
     counters: &Counters,
 ) -> Result<(), NoMemory>
     requires { AreWithin counters.now (2 ^ 62) }
-    ensures { OnOk result (text.new.items ≡ text.old.items ++ node_text node role counters.now) }
+    ensures { OnOk result (text.new.items ≡ text.old.items ++ node_text naming.now node role counters.now) }
 {
-    put_count(text, b"node ", node as u64)?;
-    text.extend_from_slice(b" ")?;
-    text.extend_from_slice(role.word().as_bytes())?;
-    text.extend_from_slice(b" ")?;
+    put(text, "node ")?;
+    naming.put_node(text, node)?;
+    put(text, " ")?;
+    put(text, role.word())?;
+    put(text, " ")?;
     put_counters(text, counters)
 }
 
@@ -84,8 +87,7 @@ pub fn put_head(
     put_count(text, b"bench 1 table ", capacity as u64)?;
     put_count(text, b" nodes ", nodes as u64)?;
     put_count(text, b" links ", links as u64)?;
-    text.extend_from_slice(b"\n")?;
-    Ok(())
+    put(text, "\n")
 }
 
 /// Puts the line of the bench of a finished run.
@@ -98,12 +100,16 @@ fn put_first<const C: usize>(text: &mut Vec<u8>, closed: &Closed<C>) -> Result<(
 }
 
 /// Puts the line of each node.
-fn put_nodes<const C: usize>(text: &mut Vec<u8>, closed: &Closed<C>) -> Result<(), NoMemory>
-    ensures { OnOk result (text.new.items ≡ text.old.items ++ node_lines closed.now.run
-        (length closed.now.run.places)) }
+fn put_nodes<const C: usize>(
+    text: &mut Vec<u8>,
+    naming: &Naming,
+    closed: &Closed<C>,
+) -> Result<(), NoMemory>
+    ensures { OnOk result (text.new.items ≡ text.old.items
+        ++ node_lines naming.now closed.now.run (length closed.now.run.places)) }
 {
     for (node, place) in closed.topology().places().iter().enumerate() {
-        put_node(text, node, place.role(), &closed.counters(node))?;
+        put_node(text, naming, node, place.role(), &closed.counters(node))?;
     }
     Ok(())
 }
@@ -124,38 +130,40 @@ fn put_links<const C: usize>(text: &mut Vec<u8>, closed: &Closed<C>) -> Result<(
 fn report_with<const C: usize>(
     alloc: Global,
     closed: &Closed<C>,
+    naming: &Naming,
     scope: Scope,
     finding: Finding,
     parts: &[u8],
 ) -> Result<Vec<u8>, NoMemory>
     ensures text { IfOk result (λ text. text.items
-        ≡ report scope closed.now.run finding parts.now) }
+        ≡ report naming.now scope closed.now.run finding parts.now) }
     ensures finished { IsFinished closed.now }
 {
     let mut text = Vec::new(alloc);
     put_first(&mut text, closed)?;
-    put_nodes(&mut text, closed)?;
+    put_nodes(&mut text, naming, closed)?;
     put_links(&mut text, closed)?;
     text.extend_from_slice(parts)?;
-    put_network(alloc, &mut text, closed, scope)?;
-    put_finding(&mut text, finding)?;
+    put_network(alloc, &mut text, naming, closed, scope)?;
+    put_finding(&mut text, naming, finding)?;
     Ok(text)
 }
 
 /// The report of a finished run of which the chosen audit found this: a line for the bench, for each node and for each
 /// link, the parts that are asked for; of a network a line for each port on a ring without a link, and for each send
-/// that no node is for; and what was found. `NoMemory` if allocation fails.
+/// that no node is for; and what was found. Nodes and entries are called as the naming calls them. `NoMemory` if allocation fails.
 pub fn report<const C: usize>(
     alloc: Global,
     closed: &Closed<C>,
+    naming: &Naming,
     scope: Scope,
     finding: Finding,
     asked: Asked,
 ) -> Result<Vec<u8>, NoMemory>
-    ensures text { IfOk result (λ text. IsReportOf scope asked closed.now.run finding text.items) }
+    ensures text { IfOk result (λ text. IsReportOf naming.now scope asked closed.now.run finding text.items) }
     ensures finished { OnOk result (IsFinished closed.now) }
 {
     // Formed before the rest and lent: a function that owns one value has few returns on which others are dropped.
-    let parts = parts(alloc, closed, asked)?;
-    report_with(alloc, closed, scope, finding, parts.as_slice())
+    let parts = parts(alloc, closed, naming, asked)?;
+    report_with(alloc, closed, naming, scope, finding, parts.as_slice())
 }

@@ -6,7 +6,8 @@ ghost use Rattle.hsr_report.specs.Report.{spending_line};
 use hsr_audit::{BudgetFault, budget};
 use hsr_finished_run::Closed;
 use hsr_frame::NoMemory;
-use hsr_node_text::put_count;
+use hsr_naming::Naming;
+use hsr_text::{put, put_count};
 use std::alloc::Global;
 
 /// What a run spent of its tables.
@@ -34,17 +35,17 @@ pub fn spending_of<const C: usize>(alloc: Global, closed: &Closed<C>) -> Result<
 
 /// Puts the line of the budget (RULES, The report). `NoMemory` if allocation fails; a front of the line may stand
 /// there then.
-pub fn put_spending(text: &mut Vec<u8>, spending: Spending) -> Result<(), NoMemory>
-    ensures { OnOk result (text.new.items ≡ text.old.items ++ spending_line spending) }
+pub fn put_spending(text: &mut Vec<u8>, naming: &Naming, spending: Spending) -> Result<(), NoMemory>
+    ensures { OnOk result (text.new.items ≡ text.old.items
+        ++ spending_line naming.now spending) }
 {
     match spending {
         Spending::Within(most) => put_count(text, b"budget ", most as u64)?,
         Spending::Late { node, place } => {
-            put_count(text, b"budget late ", node as u64)?;
-            put_count(text, b" ", place as u64)?;
+            put(text, "budget late ")?;
+            naming.put_entry(text, node, place)?;
         }
         Spending::Crowded { moment } => put_count(text, b"budget crowded ", moment)?,
     }
-    text.extend_from_slice(b"\n")?;
-    Ok(())
+    put(text, "\n")
 }

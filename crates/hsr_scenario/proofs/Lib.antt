@@ -2,3 +2,4 @@ pub mod Macs
 pub mod Lists
 mod Each
 mod Documents
+pub mod Sent

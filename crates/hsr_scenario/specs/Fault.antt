@@ -35,6 +35,7 @@ key_text key.About = codes "about"
 key_text key.Port = codes "port"
 key_text key.Dir = codes "dir"
 key_text key.Octets = codes "octets"
+key_text key.Stream = codes "stream"
 
 abbrev pub is_memory : What → Bool
 is_memory NoMemory = true

@@ -5,6 +5,7 @@ pub mod Words
 pub mod Nodes
 pub mod Links
 pub mod Steps
+pub mod Streams
 pub mod Meaning
 pub mod Listed
 pub mod Names

@@ -1,5 +1,5 @@
 -- What a document says, or its first fault.
-use Rattle.std.specs.Prelude.{ℕ, ◌^◌, nat_le, List, [], ◌∷◌, length, map, Option, Some, None, Result, Ok, Err, if◌then◌else◌}
+use Rattle.std.specs.Prelude.{ℕ, List, [], ◌∷◌, length, map, Option, Some, None, Result, Ok, Err}
 use Rattle.toml.specs.Data.{Members}
 use Rattle.hsr_topology.specs.Topology.{Topology, made}
 use Rattle.hsr_topology.specs.declared.end.End.{End}

@@ -10,7 +10,7 @@ use Rattle.hsr_toml.specs.Fallible.{◌>>=◌}
 use Rattle.hsr_toml.specs.Tables.{between, integer, needed, optional, perhaps, word}
 use Rattle.hsr_scenario.specs.Fault.{faults}
 use Rattle.hsr_scenario.specs.Tables.{moment, only}
-use Rattle.hsr_toml.specs.Names.{mac_of}
+use Rattle.hsr_toml.specs.Names.{mac_of, name_of}
 use Rattle.hsr_scenario.specs.Words.{deed_of, octets_of}
 use Rattle.hsr_link.specs.Words.{dir_of}
 use Rattle.hsr_scenario.specs.Links.{used_end, used_name}
@@ -37,6 +37,10 @@ abbrev pub about_of : Option (List ℕ) → About
 about_of None = Own
 about_of (Some mac) = Proxied mac
 
+-- the name of the stream from which a frame is; the empty one where it's from none
+abbrev pub stream : Members → Result (List ℕ) What
+stream ms = optional faults key.Stream [] (word faults name_of) ms
+
 unfoldable pub clock : TimeUnit → Members → Result Step What
 clock unit ms = do
   _ ← only (key.Do ∷ key.At ∷ []) ms
@@ -45,20 +49,22 @@ clock unit ms = do
 
 unfoldable pub send : List Named → Members → Result Step What
 send nodes ms = do
-  _ ← only (key.Do ∷ key.Node ∷ key.To ∷ key.Kind ∷ key.Payload ∷ key.Vlan ∷ key.From ∷ []) ms
+  _ ← only (key.Do ∷ key.Node ∷ key.To ∷ key.Kind ∷ key.Payload ∷ key.Vlan ∷ key.From ∷ key.Stream ∷ []) ms
   node ← needed faults key.Node (used_name nodes) ms
   dst ← needed faults key.To (word faults mac_of) ms
   ethertype ← needed faults key.Kind (between faults 0 65535) ms
   payload ← optional faults key.Payload [] (word faults octets_of) ms
   vlan ← optional faults key.Vlan None (perhaps (between faults 0 65535)) ms
   from ← optional faults key.From 0 (between faults 0 15) ms
+  _ ← stream ms
   Ok (Send node from dst vlan ethertype payload)
 
 unfoldable pub life : List Named → Members → Result Step What
 life nodes ms = do
-  _ ← only (key.Do ∷ key.Node ∷ key.About ∷ []) ms
+  _ ← only (key.Do ∷ key.Node ∷ key.About ∷ key.Stream ∷ []) ms
   node ← needed faults key.Node (used_name nodes) ms
   about ← optional faults key.About None (perhaps (word faults mac_of)) ms
+  _ ← stream ms
   Ok (Supervise node (about_of about))
 
 unfoldable pub age : List Named → Members → Result Step What

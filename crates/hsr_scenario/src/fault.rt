@@ -37,6 +37,7 @@ pub enum Key {
     Port,
     Dir,
     Octets,
+    Stream,
 }
 
 impl TableKey for Key {
@@ -95,6 +96,7 @@ impl Key {
             Key::Port => "port",
             Key::Dir => "dir",
             Key::Octets => "octets",
+            Key::Stream => "stream",
         }
     }
 }

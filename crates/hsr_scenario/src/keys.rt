@@ -32,7 +32,7 @@ pub const LINK_KEYS: [Key; 1] = [Key::Ends];
 pub const CLOCK_KEYS: [Key; 2] = [Key::Do, Key::At];
 
 /// The keys of a send.
-pub const SEND_KEYS: [Key; 7] = [
+pub const SEND_KEYS: [Key; 8] = [
     Key::Do,
     Key::Node,
     Key::To,
@@ -40,10 +40,11 @@ pub const SEND_KEYS: [Key; 7] = [
     Key::Payload,
     Key::Vlan,
     Key::From,
+    Key::Stream,
 ];
 
 /// The keys of a life.
-pub const LIFE_KEYS: [Key; 3] = [Key::Do, Key::Node, Key::About];
+pub const LIFE_KEYS: [Key; 4] = [Key::Do, Key::Node, Key::About, Key::Stream];
 
 /// The keys of an age.
 pub const AGE_KEYS: [Key; 2] = [Key::Do, Key::Node];

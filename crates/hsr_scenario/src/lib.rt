@@ -11,7 +11,8 @@
 //! - `steps`: the steps of a scenario
 //! - `scenario`: scenarios
 //! - `reading`: how a text is read as a scenario
-//! - `naming`: the names of a scenario's nodes
+//! - `streams`: from which streams the sends of a scenario are, node by node
+//! - `naming`: the names of a scenario's nodes, and from which streams its sends are
 //! - `law`: what a scenario lists, and which of its tables has its fault
 #![tactic(auto)]
 
@@ -25,6 +26,7 @@ mod nodes;
 mod reading;
 mod scenario;
 mod steps;
+mod streams;
 mod table;
 mod words;
 
@@ -39,3 +41,4 @@ pub use naming::{Names, read_names};
 pub use reading::read;
 pub use scenario::Scenario;
 pub use steps::Order;
+pub use streams::{Sending, streams_of};

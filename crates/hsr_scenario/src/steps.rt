@@ -8,7 +8,7 @@ ghost use Rattle.hsr_scenario.specs.Tables.{moment, natural};
 ghost use Rattle.hsr_toml.specs.Names.{mac_of};
 ghost use Rattle.hsr_scenario.specs.Words.{deed_of, octets_of};
 ghost use Rattle.hsr_link.specs.Words.{dir_of};
-ghost use Rattle.hsr_scenario.specs.Steps.{age, at_link, at_port, clock, drain, inject, life, link_numbered, order_in, order_of, send, stepped, take, used_link};
+ghost use Rattle.hsr_scenario.specs.Steps.{age, at_link, at_port, clock, drain, inject, life, link_numbered, order_in, order_of, send, stepped, stream, take, used_link};
 ghost use Rattle.hsr_scenario.specs.declared.fault.Key.TheVariants as key;
 ghost use Rattle.hsr_world_steps.specs.declared.step.Step.TheVariants as step;
 
@@ -26,7 +26,7 @@ use hsr_frame::{About, Mac};
 use hsr_link::Dir;
 use hsr_node::Octets;
 use hsr_text::TimeUnit;
-use hsr_toml::{between, integer, mac, needed, number_or, text, value};
+use hsr_toml::{between, integer, is_name, mac, needed, number_or, text, value};
 use hsr_world_steps::Step;
 use std::alloc::Global;
 use toml::{Table, Value};
@@ -188,6 +188,23 @@ fn about(table: &Table) -> Result<Option<Mac>, What>
     }
 }
 
+/// The name of the stream from which a frame is: the empty text where it's from none.
+pub(crate) fn stream(table: &Table) -> Result<&str, What>
+    ensures { Gives (λ s. s.now) result (stream (table_view table.now)) }
+{
+    match value(table, Key::Stream) {
+        None => Ok(""),
+        Some(value) => {
+            let name = text(Key::Stream, value)?;
+            if is_name(name.as_bytes()) {
+                Ok(name)
+            } else {
+                Err(What::BadValue(Key::Stream))
+            }
+        }
+    }
+}
+
 // ---- steps
 
 /// The moment is set.
@@ -212,6 +229,8 @@ fn send(alloc: Global, nodes: &[Named], table: &Table) -> Result<Step, What>
     let payload = payload(alloc, table)?;
     let vlan = vlan(table)?;
     let from = from(table)?;
+    // The stream is for who reads names: the step is the same without it.
+    stream(table)?;
     Ok(Step::Send {
         node,
         from,
@@ -229,16 +248,12 @@ fn life(nodes: &[Named], table: &Table) -> Result<Step, What>
 {
     only(table, &LIFE_KEYS)?;
     let node = used_node(nodes, table)?;
-    match about(table)? {
-        None => Ok(Step::Supervise {
-            node,
-            about: About::Own,
-        }),
-        Some(mac) => Ok(Step::Supervise {
-            node,
-            about: About::Proxied(mac),
-        }),
-    }
+    let about = match about(table)? {
+        None => About::Own,
+        Some(mac) => About::Proxied(mac),
+    };
+    stream(table)?;
+    Ok(Step::Supervise { node, about })
 }
 
 /// A node drops what is expired.
@@ -332,7 +347,7 @@ fn drain(table: &Table) -> Result<Order, What>
 // ---- the table of a step
 
 /// What a step does.
-fn deed(table: &Table) -> Result<Deed, What>
+pub(crate) fn deed(table: &Table) -> Result<Deed, What>
     ensures { Gives (λ d. d) result (needed faults key.Do (word faults deed_of)
         (table_view table.now)) }
 {

@@ -35,11 +35,11 @@ fn of_own_step(word: &str) -> Keys {
     match word {
         "send" => Keys {
             keys: &SEND_KEYS,
-            words: "a send has do, node, to, type, payload, vlan and from",
+            words: "a send has do, node, to, type, payload, vlan, from and stream",
         },
         "life" => Keys {
             keys: &LIFE_KEYS,
-            words: "a life has do, node and about",
+            words: "a life has do, node, about and stream",
         },
         "age" => Keys {
             keys: &AGE_KEYS,

@@ -7,7 +7,7 @@ fn values_of_parts(key: Key) -> &'static str {
     match key {
         Key::Capacity => "1 to 4096",
         Key::TimeUnit => "\"ms\" or \"us\"",
-        Key::Name => "1 to 32 small letters, digits and hyphens",
+        Key::Name | Key::Stream => "1 to 32 small letters, digits and hyphens",
         Key::Role => "\"danh\", \"redbox\", \"quadbox\" or \"station\"",
         Key::Mac => "an address as \"02-00-00-00-00-01\"",
         Key::Mode => "\"H\", \"N\" or \"U\"",

@@ -15,23 +15,15 @@ use crate::asked::{Asked, asked_by};
 use crate::fault::Fault;
 use crate::running::{tap_run, tell_ending};
 use hsr_cli::turn_away;
+use hsr_files::text_at;
 use hsr_tap_device::DeviceFault;
-use hsr_text::arguments;
+use hsr_text::{InputFault, arguments};
 use hsr_toml::TEXT_LIMIT;
-use std::fs::{File, Files};
-use std::io::{ErrorKind, Read, Write};
+use std::fs::Files;
+use std::io::{ErrorKind, Write};
 use std::process::ExitCode;
 use std::rt::Env;
 use std::{env, io};
-
-/// The text of a file, or of a longer one a front that is longer than a document may be.
-fn text_at<H: AllocGlobal + Files>(rt: &H, path: &str) -> io::Result<Vec<u8>> {
-    let file = File::open(rt, path)?;
-    let mut text = Vec::new(rt.alloc());
-    // One octet more than a document may have is enough to refuse it.
-    file.take(TEXT_LIMIT as u64 + 1).read_to_end(&mut text)?;
-    Ok(text)
-}
 
 /// The document at a path, if there is one.
 fn document_at<H: AllocGlobal + Files>(
@@ -41,13 +33,13 @@ fn document_at<H: AllocGlobal + Files>(
     let Some(path) = path else {
         return Ok(None);
     };
-    match text_at(rt, path) {
+    match text_at(rt, rt.alloc(), path, TEXT_LIMIT) {
         Ok(text) => match String::from_utf8(text) {
             Ok(text) => Ok(Some(text)),
             Err(_) => Err(Fault::Device(DeviceFault::Text)),
         },
-        Err(error) if error.kind() == ErrorKind::OutOfMemory => Err(Fault::Memory),
-        Err(_) => Err(Fault::NoDevice),
+        Err(InputFault::Memory) => Err(Fault::Memory),
+        Err(InputFault::Read) => Err(Fault::NoDevice),
     }
 }
 

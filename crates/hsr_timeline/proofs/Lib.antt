@@ -3,5 +3,6 @@ pub mod Circles
 mod Named
 pub mod Placing
 pub mod Sided
+mod Walked
 pub mod Pairing
 pub mod Showing

@@ -3,6 +3,7 @@ pub mod Fronts
 pub mod Names
 pub mod Partners
 pub mod Hops
+pub mod Walk
 pub mod IndexedCopies
 pub mod Sides
 pub mod Causes

@@ -9,6 +9,7 @@ use crate::copies::{came_at, passed_at};
 use crate::hop::Hop;
 use crate::origin::Spot;
 use crate::partners::partners;
+use crate::walk::places_in_order;
 use hsr_finished_run::Closed;
 use hsr_frame::NoMemory;
 use hsr_link::{Dir, Row};
@@ -37,8 +38,12 @@ pub fn passed_places<const C: usize>(
     ensures { IfOk result (λ places. places.items ≡ passed_places closed.now.run link dir) }
 {
     let from = closed.from_end(link, dir);
-    let sent = passed_at(alloc, closed, from)?;
     let rows = closed.rows(link);
+    // A world's rows stand in the order of its records, so a map is made only where this fails.
+    if let Some(places) = places_in_order(alloc, closed, from, dir, rows)? {
+        return Ok(places);
+    }
+    let sent = passed_at(alloc, closed, from)?;
     let places = partners(alloc, sent.as_slice(), Passage::Put, dir, rows)?;
     Ok(places)
 }

@@ -12,6 +12,7 @@
 //! - `hop`: a hop
 //! - `partners`: which of some copies is which of others, by a map
 //! - `copies`: what the entries of a record passed, and what they let in
+//! - `walk`: which entry passed the copy of each row, by a walk over both
 //! - `hopping`: the hops of a run, its calls
 //! - `shown`: a row in that order
 //! - `pairs`: effects with their causes, by an index
@@ -40,6 +41,7 @@ mod shown;
 mod stamp;
 mod telling;
 mod timing;
+mod walk;
 
 pub use calling::node_called;
 pub use choice::{Choice, ChoiceFault};

@@ -80,7 +80,7 @@ fn indices_of<'b>(kept: &'b IndicesByCopy<'_>, copy: &'b Carried) -> &'b [usize]
 }
 
 /// The copy of a row, if it was put, or taken, in a direction.
-fn copy_of_passage<'a>(which: Passage, dir: Dir, row: &'a Row) -> Option<&'a Carried>
+pub(crate) fn copy_of_passage<'a>(which: Passage, dir: Dir, row: &'a Row) -> Option<&'a Carried>
     ensures { option_map (λ c. c.now) result ≡ copy_of_passage which dir row.now }
 {
     let is_told = match which {

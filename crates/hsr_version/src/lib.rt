@@ -2,4 +2,4 @@
 #![tactic(auto)]
 
 /// The version of the programs, and the line of the kit that they are proved and built with.
-pub const VERSION: &str = "1.6.0 (rattle-kit-13f logic dac8208d650f15bf)";
+pub const VERSION: &str = "1.7.0 (rattle-kit-13f logic dac8208d650f15bf)";

@@ -11,13 +11,13 @@ use Rattle.hsr_transcript.specs.declared.fault.ReadFault.{ReadFault}
 use Rattle.hsr_head.specs.Told.{told_size}
 use Rattle.hsr_view.specs.Ends.{Ends}
 use Rattle.hsr_view.specs.Fault.{fault_of_read}
-use Rattle.hsr_view.specs.Given.{given_of}
+use Rattle.hsr_given.specs.Given.{given_of}
 use Rattle.hsr_head.specs.Reads.{ReadsHead, front}
 use Rattle.hsr_view.specs.Refusals.{IsUnshown, IsUnshownOf, IsUnshownWith}
 use Rattle.hsr_view.specs.Viewing.{IsShownOf}
 use Rattle.hsr_view.specs.declared.views.What.{What}
 use Rattle.hsr_view.specs.declared.fault.Fault.{Fault}
-use Rattle.hsr_view.specs.declared.given.Given.{Given}
+use Rattle.hsr_given.specs.declared.given.Given.{Given}
 use Rattle.hsr_head.proofs.Heads.{of_text}
 
 module _ (what : What) (scenario : Option (List ℕ)) where

@@ -6,7 +6,7 @@ use Rattle.std.specs.Io.KnownBytes.{Appends, Keeps}
 use Rattle.hsr_table_size.specs.Sizes.{capacity_of}
 use Rattle.hsr_head.specs.Told.{told_size}
 use Rattle.hsr_view.specs.Fault.{fault_line}
-use Rattle.hsr_view.specs.Given.{given_of}
+use Rattle.hsr_given.specs.Given.{given_of}
 use Rattle.hsr_head.specs.Reads.{front}
 use Rattle.hsr_view.specs.Refusals.{IsUnshownOf}
 use Rattle.hsr_view.specs.Viewing.{IsShownOf}

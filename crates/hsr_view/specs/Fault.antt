@@ -15,9 +15,9 @@ use Rattle.hsr_diagram.specs.declared.picturing.PictureFault.{PictureFault}
 use Rattle.hsr_diagram.specs.declared.picturing.PictureFault.TheVariants as picture
 use Rattle.hsr_transcript.specs.declared.fault.ReadFault.{ReadFault}
 use Rattle.hsr_transcript.specs.declared.fault.ReadFault.TheVariants as read
-use Rattle.hsr_view.specs.Given.{given_words}
-use Rattle.hsr_view.specs.Unnamed.{unnamed_words}
-use Rattle.hsr_view.specs.declared.given.Given.{Given}
+use Rattle.hsr_given.specs.Given.{given_words}
+use Rattle.hsr_given.specs.Unnamed.{unnamed_words}
+use Rattle.hsr_given.specs.declared.given.Given.{Given}
 use Rattle.hsr_view.specs.declared.fault.Fault.{Fault}
 use Rattle.hsr_view.specs.declared.fault.Extent.{Extent}
 use Rattle.hsr_view.specs.declared.fault.Moments.{Moments}

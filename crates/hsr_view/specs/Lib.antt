@@ -1,6 +1,4 @@
 pub mod Agreeing
-pub mod Given
-pub mod Unnamed
 pub mod Fault
 pub mod Viewing
 pub mod Refusals

@@ -28,9 +28,9 @@ use Rattle.hsr_view.specs.Viewing.{AreNames, AreSends, IsSend, leaves_none, prob
 use Rattle.hsr_view.specs.declared.views.What.{What}
 use Rattle.hsr_view.specs.declared.views.What.TheVariants as asked
 use Rattle.hsr_view.specs.declared.fault.Fault.{Fault}
-use Rattle.hsr_view.specs.Unnamed.{other, unread}
-use Rattle.hsr_view.specs.declared.given.Given.{Given}
-use Rattle.hsr_view.specs.declared.unnamed.Unnamed.{Unnamed}
+use Rattle.hsr_given.specs.Unnamed.{other, unread}
+use Rattle.hsr_given.specs.declared.given.Given.{Given}
+use Rattle.hsr_given.specs.declared.unnamed.Unnamed.{Unnamed}
 use Rattle.hsr_view.specs.declared.fault.Fault.TheVariants.{Names, Link, Send, NoCopies, NoneAsked, Circle, TooLong, Read, Memory}
 
 -- a text can't be read for the names of a scenario, or it is one of other nodes or links

@@ -2,11 +2,10 @@
 ghost use Rattle.std.specs.Prelude.{◌≡◌, Some};
 ghost use Rattle.hsr_view.specs.Fault.{extent_text, fault_line, moments_text, fault_of_read};
 
-use crate::given::Given;
-use crate::unnamed::Unnamed;
 use hsr_capture::BlockFault;
 use hsr_diagram::PictureFault;
 use hsr_frame::NoMemory;
+use hsr_given::{Given, Unnamed};
 use hsr_timeline::{ChoiceFault, StoryFault};
 use hsr_transcript::ReadFault;
 use std::fmt;

@@ -4,8 +4,6 @@
 //! Its modules, in the order in which to read them:
 //! - `views`: what can be asked for
 //! - `agreeing`: when links are down, by the scenario of the run
-//! - `given`: what a text is that is no transcript
-//! - `unnamed`: what a text is that is no scenario of the run
 //! - `fault`: why nothing is shown, and the line that says it
 //! - `viewing`: what is shown of a text
 //! - `running`: the whole, its calls
@@ -20,9 +18,7 @@ mod agreeing;
 mod asked;
 mod command_line;
 mod fault;
-mod given;
 mod running;
-mod unnamed;
 mod viewing;
 mod views;
 
@@ -30,25 +26,17 @@ use crate::asked::Asked;
 use crate::command_line::asked;
 use crate::fault::Fault;
 use crate::running::{report_ending, view_run};
-use crate::unnamed::{Unnamed, no_text};
 use hsr_cli::turn_away;
+use hsr_files::text_at;
+use hsr_given::{Unnamed, no_text};
 use hsr_scenario::TEXT_LIMIT;
-use hsr_text::arguments;
+use hsr_text::{InputFault, arguments};
 use std::alloc::Global;
-use std::fs::{File, Files};
-use std::io::{ErrorKind, Read, Write};
+use std::fs::Files;
+use std::io::{ErrorKind, Write};
 use std::process::ExitCode;
 use std::rt::Env;
 use std::{env, io};
-
-/// The text of a file, or of a longer one a front that is longer than the text of a scenario may be.
-fn text_at<H: AllocGlobal + Files>(rt: &H, path: &str) -> io::Result<Vec<u8>> {
-    let file = File::open(rt, path)?;
-    let mut text = Vec::new(rt.alloc());
-    // One octet more than a scenario may have is enough to refuse it.
-    file.take(TEXT_LIMIT as u64 + 1).read_to_end(&mut text)?;
-    Ok(text)
-}
 
 /// The text of the scenario at a path, if there is one: of what can't be read there are no names.
 fn scenario_at<H: AllocGlobal + Files>(
@@ -58,7 +46,7 @@ fn scenario_at<H: AllocGlobal + Files>(
     let Some(path) = path else {
         return Ok(None);
     };
-    match text_at(rt, path) {
+    match text_at(rt, rt.alloc(), path, TEXT_LIMIT) {
         Ok(text) => {
             // Asked first, since `String::from_utf8` takes the octets, and the fault tells of them.
             if str::from_utf8(text.as_slice()).is_err() {
@@ -69,8 +57,8 @@ fn scenario_at<H: AllocGlobal + Files>(
                 Err(_) => Err(Fault::Names(Unnamed::NoText)),
             }
         }
-        Err(error) if error.kind() == ErrorKind::OutOfMemory => Err(Fault::Memory),
-        Err(_) => Err(Fault::Names(Unnamed::NoFile)),
+        Err(InputFault::Memory) => Err(Fault::Memory),
+        Err(InputFault::Read) => Err(Fault::Names(Unnamed::NoFile)),
     }
 }
 

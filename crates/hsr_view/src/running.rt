@@ -2,7 +2,7 @@
 ghost use Rattle.std.specs.Prelude.{◌≡◌, ◌⊎◌, IfErr, IfOk, IfSome, option_map};
 ghost use Rattle.hsr_table_size.specs.Sizes.{capacity_of};
 ghost use Rattle.hsr_view.specs.Ends.{Ends, IsDelivered, Tells, Views, code_of};
-ghost use Rattle.hsr_view.specs.Given.{given_of};
+ghost use Rattle.hsr_given.specs.Given.{given_of};
 ghost use Rattle.hsr_head.specs.Reads.{front};
 ghost use Rattle.hsr_head.specs.Told.{told_size};
 ghost use Rattle.hsr_view.specs.declared.fault.Fault.TheVariants.{Memory, Read as ReadFailed};

@@ -1,4 +1,4 @@
-use Rattle.std.proofs.Common.{rules, ◌<◌, map, length, subst, arith, List}
+use Rattle.std.proofs.Common.{◌<◌, map, length, subst, arith, List}
 use Rattle.std.proofs.lemmas.List.{length-map}
 use Rattle.std.proofs.lemmas.Bool.Decides.{nat_tests}
 use Rattle.clap.specs.Words.{Text, app_of}
@@ -14,7 +14,7 @@ returns-in-Some-clause-found c =
     let some : 0 < length c.args.words.now = grind (arith, nat_tests, c.if-is_empty.false, c.is_empty.ensures) in
     let more : 0 < length words = simp length-map (omega arith) in
     let is : IsBench app =
-    (c.as_slice.result, c.as_slice-2.result, c.as_slice-3.result, c.as_slice-4.result, search rules, search rules, search rules, search rules, c.in_ok-command.ensures) in
+    (c.roles.result, c.modes.result, c.tables.result, c.choices.result, c.units.result, c.roles.ensures, c.modes.ensures, c.tables.ensures, c.choices.ensures, c.units.ensures, c.in_ok-command.ensures) in
     let found = (c.in-Ok.ensures.matches (is_simple_so app is)).1 in
     says words app c.in-Some.options more is (subst (λ f. ChosenIn f c.in-Some.options) found c.in-Some.ensures.found)
 
@@ -25,7 +25,7 @@ returns-in-Some-clause-taken c =
     let some : 0 < length c.args.words.now = grind (arith, nat_tests, c.if-is_empty.false, c.is_empty.ensures) in
     let more : 0 < length words = simp length-map (omega arith) in
     let is : IsBench app =
-    (c.as_slice.result, c.as_slice-2.result, c.as_slice-3.result, c.as_slice-4.result, search rules, search rules, search rules, search rules, c.in_ok-command.ensures) in
+    (c.roles.result, c.modes.result, c.tables.result, c.choices.result, c.units.result, c.roles.ensures, c.modes.ensures, c.tables.ensures, c.choices.ensures, c.units.ensures, c.in_ok-command.ensures) in
     taken words app more is (c.in-Ok.ensures.kinds (is_free app is))
 
 pub returns-in-Ok-clause-refused : goal.returns-in-Ok-clause-refused
@@ -35,7 +35,7 @@ returns-in-Ok-clause-refused c =
     let some : 0 < length c.args.words.now = grind (arith, nat_tests, c.if-is_empty.false, c.is_empty.ensures) in
     let more : 0 < length words = simp length-map (omega arith) in
     let is : IsBench app =
-    (c.as_slice.result, c.as_slice-2.result, c.as_slice-3.result, c.as_slice-4.result, search rules, search rules, search rules, search rules, c.in_ok-command.ensures) in
+    (c.roles.result, c.modes.result, c.tables.result, c.choices.result, c.units.result, c.roles.ensures, c.modes.ensures, c.tables.ensures, c.choices.ensures, c.units.ensures, c.in_ok-command.ensures) in
     let nothing = subst SaysNothing (c.in-Ok.ensures.matches (is_simple_so app is)).1 c.in-None.ensures.none in
     usage_weaker c.usage.result _ _ (λ text said. silent words app text more is (c.in-Ok.ensures.kinds (is_free app is)) nothing said) c.usage.ensures
 
@@ -46,6 +46,6 @@ returns-clause-refused c =
     let some : 0 < length c.args.words.now = grind (arith, nat_tests, c.if-is_empty.false, c.is_empty.ensures) in
     let more : 0 < length words = simp length-map (omega arith) in
     let is : IsBench app =
-    (c.as_slice.result, c.as_slice-2.result, c.as_slice-3.result, c.as_slice-4.result, search rules, search rules, search rules, search rules, c.in_ok-command.ensures) in
+    (c.roles.result, c.modes.result, c.tables.result, c.choices.result, c.units.result, c.roles.ensures, c.modes.ensures, c.tables.ensures, c.choices.ensures, c.units.ensures, c.in_ok-command.ensures) in
     usage_weaker c.refused.result _ _
     (λ text room. faulty words app text more is (fault_found _ c.in-Err.error (c.in-Err.ensures.kinds (is_free app is)) room)) c.refused.ensures.kind

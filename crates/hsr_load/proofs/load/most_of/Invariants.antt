@@ -1,6 +1,6 @@
 use Rattle.std.proofs.Common.{◌≡◌, None, drop}
 use Rattle.std.specs.Prelude.{fold}
-use Rattle.hsr_load.specs.Loads.{more}
+use Rattle.hsr_load.specs.Sums.{more}
 use Rattle.hsr_load.proofs.load.most_of.Given as goal
 
 abbrev pub invariant-loop-load : goal.invariant-loop-load

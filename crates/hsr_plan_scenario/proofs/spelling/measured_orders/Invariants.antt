@@ -1,7 +1,12 @@
-use Rattle.std.proofs.Common.{◌≡◌, length, min, take}
-use Rattle.std.specs.List.{flat_map}
-use Rattle.hsr_plan_scenario.specs.Spelled.{order_line}
+use Rattle.std.proofs.Common.{◌≡◌, ◌≤◌, ◌+◌, length, min}
+use Rattle.hsr_plan_scenario.specs.Spelled.{order_lines}
 use Rattle.hsr_plan_scenario.proofs.spelling.measured_orders.Given as goal
 
 abbrev pub invariant-loop-order : goal.invariant-loop-order
-invariant-loop-order l = l.octets ≡ min (length (flat_map (order_line l.nodes) (take l.order-index l.orders))) 18446744073709551615
+invariant-loop-order l =
+    (l.octets ≤ 18446744073709551615)
+    × (min (l.octets + length (order_lines l.nodes l.streams l.numbers l.left)) 18446744073709551615
+    ≡ min (length (order_lines l.nodes l.streams l.sends l.orders)) 18446744073709551615)
+
+abbrev pub decreases-loop-order : goal.decreases-loop-order
+decreases-loop-order l = length l.left

@@ -2,7 +2,7 @@ use Rattle.std.specs.Prelude.{option_map}
 use Rattle.std.proofs.Common.{ap, ◌∙◌}
 use Rattle.hsr_head.specs.Reads.{front}
 use Rattle.hsr_head.specs.Told.{told_size}
-use Rattle.hsr_view.specs.Given.{given_of}
+use Rattle.hsr_given.specs.Given.{given_of}
 use Rattle.hsr_view.proofs.Texts.{shown_sized, unshown_sized}
 use Rattle.hsr_view.proofs.viewing.shown.Goals as goal
 

@@ -1,7 +1,7 @@
 use Rattle.std.specs.Prelude.{option_map}
 use Rattle.std.proofs.Common.{ap, ◌∙◌}
 use Rattle.hsr_view.specs.Fault.{fault_of_read}
-use Rattle.hsr_view.specs.Given.{given_of}
+use Rattle.hsr_given.specs.Given.{given_of}
 use Rattle.hsr_head.specs.Reads.{front}
 use Rattle.hsr_view.proofs.Texts.{unread, unshown_run}
 use Rattle.hsr_view.proofs.viewing.shown_with.Goals as goal

@@ -1,0 +1,99 @@
+//! The names of a plan's streams.
+ghost use Rattle.std.specs.Prelude.{◌≡◌, ◌+◌, IfOk};
+ghost use Rattle.hsr_plan_schedule.specs.Naming.{count_of, kind_word, stream_name, stream_names, with_one};
+
+use hsr_frame::NoMemory;
+use hsr_plan_text::{Kind, Stream, Word};
+use hsr_text::{put, put_number};
+use std::alloc::Global;
+
+/// How many streams there are of each kind.
+#[derive(Clone, Copy, Debug, PartialEq, Eq)]
+pub(crate) struct Counts {
+    goose: u64,
+    sampled: u64,
+    other: u64,
+}
+
+/// The word for a kind in the names of its streams.
+fn kind_word(kind: Kind) -> &'static str
+    ensures { result.now ≡ kind_word kind }
+{
+    match kind {
+        Kind::Goose => "goose",
+        Kind::SampledValues => "sv",
+        Kind::Number(_) => "other",
+    }
+}
+
+/// How many streams there are of a kind.
+fn count_of(kind: Kind, counts: Counts) -> u64
+    ensures { result ≡ count_of kind counts }
+{
+    match kind {
+        Kind::Goose => counts.goose,
+        Kind::SampledValues => counts.sampled,
+        Kind::Number(_) => counts.other,
+    }
+}
+
+/// One more.
+fn one_more(count: u64) -> Result<u64, NoMemory>
+    ensures { IfOk result (λ n. n ≡ count + 1) }
+{
+    match count.checked_add(1) {
+        Some(more) => Ok(more),
+        // no plan that is read comes near it
+        None => Err(NoMemory),
+    }
+}
+
+/// One more of a kind.
+fn with_one(kind: Kind, counts: Counts) -> Result<Counts, NoMemory>
+    ensures { IfOk result (λ c. c ≡ with_one kind counts) }
+{
+    let Counts {
+        mut goose,
+        mut sampled,
+        mut other,
+    } = counts;
+    match kind {
+        Kind::Goose => goose = one_more(goose)?,
+        Kind::SampledValues => sampled = one_more(sampled)?,
+        Kind::Number(_) => other = one_more(other)?,
+    }
+    Ok(Counts {
+        goose,
+        sampled,
+        other,
+    })
+}
+
+/// The name of the last stream of a kind, where there are so many.
+fn stream_name(alloc: Global, kind: Kind, counts: Counts) -> Result<Word, NoMemory>
+    ensures { IfOk result (λ name. name ≡ stream_name kind counts) }
+{
+    let mut name = Vec::new(alloc);
+    put(&mut name, kind_word(kind))?;
+    put_number(&mut name, count_of(kind, counts))?;
+    Word::of(alloc, name.as_slice())
+}
+
+/// The names of a plan's streams, as `goose1`, `sv2` and `other1`: those of each kind are numbered from 1.
+#[tactic(auto, using(crate::proofs::Names::names_step))]
+pub(crate) fn stream_names(alloc: Global, streams: &[Stream]) -> Result<Vec<Word>, NoMemory>
+    ensures { IfOk result (λ names. names.items ≡ stream_names streams.now) }
+{
+    let mut names = Vec::new(alloc);
+    let mut counts = Counts {
+        goose: 0,
+        sampled: 0,
+        other: 0,
+    };
+    for stream in streams.iter() {
+        let kind = stream.framing.kind;
+        counts = with_one(kind, counts)?;
+        names.push(stream_name(alloc, kind, counts)?)?;
+    }
+    Ok(names)
+}

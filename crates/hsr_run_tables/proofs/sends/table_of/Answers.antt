@@ -1,0 +1,5 @@
+use Rattle.hsr_run_tables.proofs.Growing.{whole}
+use Rattle.hsr_run_tables.proofs.sends.table_of.Goals as goal
+
+pub returns : goal.returns
+returns c = whole _ _ _ _ _ c.text_of.ensures c.in_ok-put_sends.ensures c.in_ok-table.ensures.text
