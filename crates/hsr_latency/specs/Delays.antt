@@ -1,8 +1,9 @@
 -- How long sends took to a node of a finished run.
 --     counts     which arrivals at a node are looked at: those that went up, or those of a send of which another copy went up
 --     delays     of these, from send to arrival
---     greatest   the greatest, of equals that of the lowest send
-use Rattle.std.specs.Prelude.{ℕ, ◌+◌, ◌-◌, ◌==◌, ◌&&◌, ◌||◌, nat_lt, Bool, if◌then◌else◌, List, [], ◌∷◌, ◌++◌, fold, count_by, Option, Some, None}
+--     greatest   the first than which none is greater: of equals that of the lowest send
+use Rattle.std.specs.Prelude.{ℕ, ◌+◌, ◌-◌, ◌==◌, ◌&&◌, ◌||◌, nat_lt, not, Bool, if◌then◌else◌, List, [], ◌∷◌, ◌++◌, count_by, find, Option, Some, None}
+use Rattle.std.specs.List.{list_all}
 use Rattle.hsr_node.specs.declared.entry.Entry.{Entry}
 use Rattle.hsr_node.specs.declared.event.Event.{Event}
 use Rattle.hsr_node.specs.declared.event.Event.TheVariants.{Send, Supervise, Arrive, Age}
@@ -62,9 +63,9 @@ is_lower x y = nat_lt x.node y.node || (x.node == y.node && nat_lt x.place y.pla
 abbrev pub is_greater : Delay → Delay → Bool
 is_greater x y = nat_lt y.time x.time || (x.time == y.time && is_lower x.send y.send)
 
-abbrev pub greater : Option Delay → Delay → Option Delay
-greater None delay = Some delay
-greater (Some most) delay = if is_greater delay most then Some delay else Some most
+-- none of them is greater
+abbrev pub is_greatest : List Delay → Delay → Bool
+is_greatest ds delay = list_all (λ (other : Delay). not (is_greater other delay)) ds
 
 abbrev pub greatest : List Delay → Option Delay
-greatest ds = fold greater None ds
+greatest ds = find (is_greatest ds) ds

@@ -1,9 +1,9 @@
 -- The latency of a finished run: at each node that took up a frame, how long the slowest took, and the slowest second copy.
 --     latency_of   that of a node
 --     latencies    those of all nodes, by node
---     worst        the node where one took longest, of equals the first
-use Rattle.std.specs.Prelude.{ℕ, zero, suc, nat_lt, if◌then◌else◌, List, [], ◌++◌, fold, length, Option, Some, None, option_map}
-use Rattle.std.specs.List.{cons_option}
+--     worst        the first node than whose slowest none took longer
+use Rattle.std.specs.Prelude.{ℕ, zero, suc, nat_lt, not, Bool, List, [], ◌++◌, find, length, Option, option_map}
+use Rattle.std.specs.List.{cons_option, list_all}
 use Rattle.hsr_run_laws.specs.Run.{Run}
 use Rattle.hsr_latency.specs.Delays.{delays, greatest}
 use Rattle.hsr_latency.specs.declared.delay.Arrivals.TheVariants.{Up, Second}
@@ -26,10 +26,13 @@ latencies_below run (suc k) = latencies_below run k ++ cons_option (latency_of r
 abbrev pub latencies : Run → List NodeLatency
 latencies run = latencies_below run (length run.places)
 
--- the one whose slowest took longer, of equals the first
-abbrev pub worse : Option NodeLatency → NodeLatency → Option NodeLatency
-worse None latency = Some latency
-worse (Some most) latency = if nat_lt most.worst.time latency.worst.time then Some latency else Some most
+-- the slowest of one took longer than that of another
+abbrev pub is_worse : NodeLatency → NodeLatency → Bool
+is_worse x y = nat_lt y.worst.time x.worst.time
+
+-- none of them is worse
+abbrev pub is_worst : List NodeLatency → NodeLatency → Bool
+is_worst latencies latency = list_all (λ (other : NodeLatency). not (is_worse other latency)) latencies
 
 abbrev pub worst : List NodeLatency → Option NodeLatency
-worst latencies = fold worse None latencies
+worst latencies = find (is_worst latencies) latencies

@@ -1,6 +1,7 @@
 //! The send that took longest.
 ghost use Rattle.std.specs.Prelude.{◌≡◌};
-ghost use Rattle.hsr_latency.specs.Delays.{greater, greatest, is_greater, is_lower};
+ghost use Rattle.hsr_latency.specs.Delays.{greatest, is_greater, is_lower};
+ghost use Rattle.hsr_latency.specs.Kept.{greater};
 
 use crate::delay::Delay;
 use hsr_node::Probe;

@@ -1,6 +1,7 @@
 //! The latency of a node, and those of a run.
 ghost use Rattle.std.specs.Prelude.{◌≡◌};
-ghost use Rattle.hsr_latency.specs.Latencies.{worse, worst};
+ghost use Rattle.hsr_latency.specs.Kept.{worse};
+ghost use Rattle.hsr_latency.specs.Latencies.{worst};
 
 use crate::delay::Delay;
 

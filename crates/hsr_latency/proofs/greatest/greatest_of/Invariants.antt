@@ -1,6 +1,6 @@
 use Rattle.std.proofs.Common.{◌≡◌, None, drop}
 use Rattle.std.specs.Prelude.{fold}
-use Rattle.hsr_latency.specs.Delays.{greater}
+use Rattle.hsr_latency.specs.Kept.{greater}
 use Rattle.hsr_latency.proofs.greatest.greatest_of.Given as goal
 
 abbrev pub invariant-loop-delay : goal.invariant-loop-delay

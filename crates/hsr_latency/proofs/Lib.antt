@@ -1,0 +1,3 @@
+mod First
+mod Order
+mod Walks
