@@ -132,15 +132,18 @@ def load_and_latency(text):
                 came[-1].append((place, send, "up" in outcome))
             for port in outcome[1:] if done != "age" else []:
                 if port in PORTS:
-                    passed.setdefault((number, port, send), []).append(moments[number][place])
+                    # From ring to ring a copy leaves as it came, so a later one of the send may have another path. Others are alike.
+                    octets = rest[2] if done == "arrive" and not {rest[0], port} & {"I", "P"} else None
+                    passed.setdefault((number, port, send), []).append((octets, moments[number][place]))
     channels = []
     for ends, carried in zip(links, rows):
         for dir, start in zip(("forth", "back"), ends):
             copies, put = [], Counter()
             for row_dir, send, octets, fate in carried:
                 if row_dir == dir:
-                    moment = passed[(*start, send_of(send))][put[send]]
-                    put[send] += 1
+                    equal = [moment for passing, moment in passed[(*start, send_of(send))] if passing in (None, octets)]
+                    moment = equal[put[send, octets]]
+                    put[send, octets] += 1
                     if fate in ("taken", "cut"):
                         frame = bytes.fromhex(octets)
                         copies.append((moment, max(60 if model.read(frame).seq is None else 66, len(frame)) + 24))
