@@ -53,7 +53,7 @@ RT
   cat >"$work/kit/program" <<'PROGRAM'
 #!/bin/sh
 says=released
-[ "${1-}" != --version ] || { echo "${0##*/} 1.0.0 (kit-1 logic one)"; exit 3; }
+[ "${1-}" != --version ] || { echo "${0##*/} 1.0.0 (rattle logic one)"; exit 3; }
 printf '%s' "$says ${0##*/}"
 for word; do printf ' <%s>' "$word"; done
 echo
@@ -255,7 +255,7 @@ try_release() {
   is 'a damaged release' 2 "$(clean "$tree/tools/release" --check >/dev/null; echo $?)"
   with_kit "$tree/tools/release" >/dev/null
   echo 1.1.0 >"$tree/VERSION"
-  is 'programs of another version' 'tools/release: hsr_bench --version says hsr_bench 1.0.0 (kit-1 logic one) = 1' \
+  is 'programs of another version' 'tools/release: hsr_bench --version says hsr_bench 1.0.0 (rattle logic one) = 1' \
     "$(call with_kit "$tree/tools/release")"
   is 'a release of another version' 1 "$(clean "$tree/tools/release" --check >/dev/null; echo $?)"
   echo 1.0.0 >"$tree/VERSION"; echo ONE >"$tree/crates/low/src/lib.rt"

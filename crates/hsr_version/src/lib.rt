@@ -1,5 +1,6 @@
-//! Which version the programs are, as `--version` prints it. The file VERSION and `rt version` say the same: `./check --prove` compares.
+//! Which version the programs are, as `--version` prints it. The file VERSION says the same, and `rt version` of each kit that proves them
+//! ends in the same logic: `./check --prove` compares both.
 #![tactic(auto)]
 
-/// The version of the programs, and the line of the kit that they are proved and built with.
-pub const VERSION: &str = "1.7.0 (rattle-kit-13f logic dac8208d650f15bf)";
+/// The version of the programs, and the logic that they are proved in. Kits of different days may share it.
+pub const VERSION: &str = "1.7.0 (rattle logic dac8208d650f15bf)";
