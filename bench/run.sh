@@ -2,8 +2,8 @@
 # Measures the program: `run` on a ring of 64 DANHs with 1,000 sends to a group, each drained, and on a ring of 16 with 10,000 and
 # 20,000; on a document of 50,000 steps of the clock; `run --transcript` on the ring of 64 with 250, 500 and 1,000 sends of 125 octets (500: 64,500
 # entries, 41 MB), and `audit` of each text. For each: the last line, processor time, peak memory, and how much was written. And what
-# `--load`, `--latency`, `--deliveries`, `--needed` and `--network` add to `run`, with 200,000 entries: on a ring of 16, whole and with a cut, so that each
-# send lost copies.
+# `--load`, `--latency`, `--names`, `--deliveries`, `--needed`, `--network` and `--csv` add to `run`, with 200,000 entries: on a ring of 16, whole and
+# with a cut, so that each send lost copies.
 set -eu
 top=$(cd "$(dirname "${BASH_SOURCE[0]}")/.." && pwd)
 work=$(mktemp -d); trap 'rm -rf "$work"' EXIT
@@ -32,12 +32,13 @@ measure() {
 # flags NAME INPUT: `run` without and with each flag, the least of five
 flags() {
   local flag
-  for flag in "" --load --latency --deliveries --needed --network; do
+  mkdir -p "$work/tables"
+  for flag in "" --load --latency --names --deliveries --needed --network "--csv $work/tables"; do
     : > "$work/times"
     for _ in {1..5}; do
       /usr/bin/time -q -a -f %U -o "$work/times" "$top/bin/hsr_bench" run $flag < "$2" > "$work/report" || true
     done
-    echo "$1, run $flag: $(tail -1 "$work/report"), $(sort -n "$work/times" | head -1) s of processor time"
+    echo "$1, run ${flag% *}: $(tail -1 "$work/report"), $(sort -n "$work/times" | head -1) s of processor time"
   done
 }
 
