@@ -1,4 +1,5 @@
 pub mod Ending
+pub mod Given
 pub mod Told
 pub mod Untold
 pub mod Whole

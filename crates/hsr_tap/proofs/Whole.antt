@@ -31,6 +31,7 @@ untold_whole : (document : Option (List ℕ)) (fcs : ℕ) (all read : List ℕ) 
 untold_whole document fcs all read (fault.Device e) same h = h
 untold_whole document fcs all read (fault.Capture e) same h = record { device = h.device; is_device = h.is_device; is_refused = same ∙ h.is_refused }
 untold_whole document fcs all read (fault.Lines e) same h = told_whole document fcs all read (Err e) same h
+untold_whole document fcs all read (fault.Stimuli e) same h = h
 untold_whole document fcs all read fault.NoDevice same h = h
 untold_whole document fcs all read fault.Write same h = h
 untold_whole document fcs all read fault.Read same h = h

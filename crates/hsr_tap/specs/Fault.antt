@@ -8,6 +8,8 @@ use Rattle.hsr_capture_reader.specs.declared.fault.ReadFault.{ReadFault}
 use Rattle.hsr_capture_reader.specs.declared.fault.ReadFault.TheVariants as read
 use Rattle.hsr_node_lines.specs.declared.fault.LinesFault.{LinesFault}
 use Rattle.hsr_node_lines.specs.declared.fault.LinesFault.TheVariants as lines
+use Rattle.hsr_stimuli.specs.declared.device.NoStimuli.{NoStimuli}
+use Rattle.hsr_stimuli.specs.declared.device.NoStimuli.TheVariants as stimuli
 use Rattle.hsr_tap_device.specs.Telling.{device_words}
 use Rattle.hsr_tap_device.specs.declared.fault.DeviceFault.{DeviceFault}
 use Rattle.hsr_tap_device.specs.declared.fault.DeviceFault.TheVariants as device
@@ -15,7 +17,7 @@ use Rattle.hsr_text.specs.declared.whole.InputFault.{InputFault}
 use Rattle.hsr_text.specs.declared.whole.InputFault.TheVariants as input
 use Rattle.hsr_toml.specs.Line.{shown}
 use Rattle.hsr_tap.specs.declared.fault.Fault.{Fault}
-use Rattle.hsr_tap.specs.declared.fault.Fault.TheVariants.{Capture, NoDevice, Device, Lines, Read, Write, Memory}
+use Rattle.hsr_tap.specs.declared.fault.Fault.TheVariants.{Capture, NoDevice, Device, Lines, Stimuli, Read, Write, Memory}
 
 -- what is wrong with a capture
 abbrev pub capture_word : CaptureFault → List ℕ
@@ -42,11 +44,18 @@ lines_words (lines.NoSuchName name) = codes "device interface no-such-name " ++ 
 lines_words (lines.NoDirection packet) = codes "device interface no-direction packet " ++ decimal packet
 lines_words lines.NoMemory = codes "memory"
 
+abbrev pub stimuli_words : NoStimuli → List ℕ
+stimuli_words stimuli.NoPlace = codes "device mac bad-value"
+stimuli_words stimuli.NoTable = codes "device table bad-value"
+stimuli_words stimuli.TooLong = codes "too-long"
+stimuli_words stimuli.NoMemory = codes "memory"
+
 abbrev pub fault_words : Fault → List ℕ
 fault_words (Capture refusal) = capture_words refusal
 fault_words NoDevice = codes "device top read"
 fault_words (Device fault) = codes "device " ++ device_words fault
 fault_words (Lines fault) = lines_words fault
+fault_words (Stimuli fault) = stimuli_words fault
 fault_words Read = codes "read"
 fault_words Write = codes "write"
 fault_words Memory = codes "memory"
@@ -71,3 +80,7 @@ device_fault fault = Device fault
 abbrev pub lines_fault : LinesFault → Fault
 lines_fault lines.NoMemory = Memory
 lines_fault fault = Lines fault
+
+abbrev pub stimuli_fault : NoStimuli → Fault
+stimuli_fault stimuli.NoMemory = Memory
+stimuli_fault fault = Stimuli fault

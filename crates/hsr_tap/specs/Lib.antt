@@ -1,3 +1,4 @@
 pub mod Fault
 pub mod Tapping
 pub mod Ends
+pub mod Trying

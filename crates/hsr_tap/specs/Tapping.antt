@@ -15,7 +15,7 @@ use Rattle.hsr_tap_device.specs.Device.{DeviceFields}
 use Rattle.hsr_tap_device.specs.Reading.{device_of}
 use Rattle.hsr_tap_device.specs.declared.fault.DeviceFault.{DeviceFault}
 use Rattle.hsr_tap.specs.declared.fault.Fault.{Fault}
-use Rattle.hsr_tap.specs.declared.fault.Fault.TheVariants.{Capture, NoDevice, Device, Lines, Read, Write, Memory}
+use Rattle.hsr_tap.specs.declared.fault.Fault.TheVariants.{Capture, NoDevice, Device, Lines, Stimuli, Read, Write, Memory}
 
 -- the packets of a file in the order of time: those of one moment as the file has them
 pub record AreInOrder (filed packets : List PacketFields) : Type 0 where
@@ -59,6 +59,7 @@ IsUntold document fcs octets (Device fault) = given_by document ≡ Err fault
 IsUntold document fcs octets (Capture refusal) = IsNoCapture document fcs octets refusal
 IsUntold document fcs octets (Lines fault) = IsTold document fcs octets (Err fault)
 IsUntold document fcs octets NoDevice = ⊥
+IsUntold document fcs octets (Stimuli fault) = ⊥
 IsUntold document fcs octets Write = ⊥
 IsUntold document fcs octets Read = ⊤
 IsUntold document fcs octets Memory = ⊤

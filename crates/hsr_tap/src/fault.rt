@@ -1,16 +1,17 @@
-//! Why there are no lines, and the line that says it.
+//! Why nothing is written, and the line that says it.
 ghost use Rattle.std.specs.Prelude.{◌≡◌, ◌++◌, IfOk, OnOk};
-ghost use Rattle.hsr_tap.specs.Fault.{capture_word, capture_words, fault_line, fault_words, lines_words};
+ghost use Rattle.hsr_tap.specs.Fault.{capture_word, capture_words, fault_line, fault_words, lines_words, stimuli_words};
 
 use hsr_capture_reader::{CaptureFault, ReadFault, Refusal};
 use hsr_frame::NoMemory;
 use hsr_node_lines::LinesFault;
+use hsr_stimuli::NoStimuli;
 use hsr_tap_device::{DeviceFault, put_device_fault};
 use hsr_text::{InputFault, put, put_count};
 use hsr_toml::put_shown;
 use std::alloc::Global;
 
-/// Why there are no lines.
+/// Why nothing is written.
 #[derive(Debug, Drop)]
 pub enum Fault {
     /// The capture can't be read, at this offset.
@@ -21,6 +22,8 @@ pub enum Fault {
     Device(DeviceFault),
     /// The packets of the capture have no lines.
     Lines(LinesFault),
+    /// The device has no stimuli.
+    Stimuli(NoStimuli),
     /// The reader failed.
     Read,
     /// The writer failed.
@@ -96,6 +99,20 @@ impl From<LinesFault> for Fault {
     }
 }
 
+impl From<NoStimuli> for Fault {
+    ghost use Rattle.std.specs.Prelude.{◌≡◌};
+    ghost use Rattle.hsr_tap.specs.Fault.{stimuli_fault};
+
+    ghost from_gives = { λ refused fault. fault ≡ stimuli_fault refused };
+
+    fn from(refused: NoStimuli) -> Fault {
+        match refused {
+            NoStimuli::NoMemory => Fault::Memory,
+            refused => Fault::Stimuli(refused),
+        }
+    }
+}
+
 /// The word of what is wrong with a capture.
 fn capture_word(fault: CaptureFault) -> &'static str
     ensures { result.now ≡ capture_word fault }
@@ -144,6 +161,18 @@ fn put_lines_fault(line: &mut Vec<u8>, fault: &LinesFault) -> Result<(), NoMemor
     }
 }
 
+/// The words of why a device has no stimuli.
+fn stimuli_words(fault: NoStimuli) -> &'static str
+    ensures { result.now ≡ stimuli_words fault }
+{
+    match fault {
+        NoStimuli::NoPlace => "device mac bad-value",
+        NoStimuli::NoTable => "device table bad-value",
+        NoStimuli::TooLong => "too-long",
+        NoStimuli::NoMemory => "memory",
+    }
+}
+
 /// Puts the words of a fault.
 fn put_words(line: &mut Vec<u8>, fault: &Fault) -> Result<(), NoMemory>
     ensures { OnOk result (line.new.items ≡ line.old.items ++ fault_words fault.now) }
@@ -156,6 +185,7 @@ fn put_words(line: &mut Vec<u8>, fault: &Fault) -> Result<(), NoMemory>
             put_device_fault(line, fault)
         }
         Fault::Lines(fault) => put_lines_fault(line, fault),
+        Fault::Stimuli(fault) => put(line, stimuli_words(*fault)),
         Fault::Read => put(line, "read"),
         Fault::Write => put(line, "write"),
         Fault::Memory => put(line, "memory"),

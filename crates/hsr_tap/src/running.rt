@@ -17,8 +17,8 @@ use std::io::{self, Read, Write};
 /// The most octets of a capture.
 const MOST: usize = 1 << 28;
 
-/// The status of a process that wrote lines.
-const TOLD: u8 = 0;
+/// The status of a process that wrote what was asked for.
+pub(crate) const TOLD: u8 = 0;
 
 /// The status of a process that a fault ended.
 const FAULT: u8 = 1;
@@ -122,7 +122,7 @@ fn told_from<R: Read>(
 }
 
 /// Writes octets, and has them leave.
-fn deliver<W: Write>(writer: &mut W, octets: &[u8]) -> Result<(), Fault>
+pub(crate) fn deliver<W: Write>(writer: &mut W, octets: &[u8]) -> Result<(), Fault>
     ensures { IsDelivered (W.contents writer.old) (W.contents writer.new) octets.now result }
 {
     // Flushed here, since nothing is written behind it: a flush that fails is a failed write.
@@ -151,7 +151,7 @@ fn tap<R: Read, W: Write>(
 }
 
 /// Tells a fault, and gives the status of the process.
-fn tell_fault<E: Write>(alloc: Global, errors: &mut E, fault: &Fault) -> io::Result<u8>
+pub(crate) fn tell_fault<E: Write>(alloc: Global, errors: &mut E, fault: &Fault) -> io::Result<u8>
     ensures { IfOk result (λ code. Tells (E.contents errors.old) (E.contents errors.new) (Err fault.now) code) }
 {
     match fault_line(alloc, fault) {

@@ -1,0 +1,9 @@
+pub mod Rules
+pub mod Shapes
+pub mod Scene
+pub mod Scenes
+pub mod Stimuli
+pub mod Playing
+pub mod Telling
+pub mod Capture
+pub mod Device
