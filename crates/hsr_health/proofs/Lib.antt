@@ -1,0 +1,15 @@
+pub mod Pasts
+pub mod Loading
+pub mod Keying
+pub mod Sorting
+pub mod Spreading
+pub mod Sourcing
+pub mod Ranking
+pub mod Sighted
+pub mod Fating
+pub mod Skewing
+pub mod Composing
+pub mod Tagging
+pub mod Addressing
+pub mod Pointing
+pub mod Flagging
