@@ -1,5 +1,5 @@
-//! Stimuli for a device: frames that try each rule of docs/RULES.md, what the reference node answers, and both as a capture and as a
-//! list.
+//! Stimuli for a device: frames that try the rules in the table of docs/TAP.md, what the reference node answers, and both as a
+//! capture and as a list.
 //!
 //! Its modules, in the order in which to read them:
 //! - `rule`: which rule a stimulus tries, and what a device that follows it does
