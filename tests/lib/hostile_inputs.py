@@ -6,8 +6,15 @@ from lib.scenarios import GROUP, ring, send
 
 LONG_LINE = "head -c 1000000000 /dev/zero | tr '\\0' a"  # 1 GB without an end
 GB_3 = 3_000_000_000
-ZEROS = f"head -c {GB_3} /dev/zero"
 MIB_16 = 16 * 1024 * 1024
+
+
+def zeros(octets):
+    """The words that give so many zeros."""
+    return f"head -c {octets} /dev/zero"
+
+
+ZEROS = zeros(GB_3)
 
 
 def random_octets():
@@ -96,3 +103,13 @@ def cut_packets(length, count=2**20):
     """A capture of packets of which nothing was captured."""
     head = struct.pack("<IHHiIII", 0xA1B2C3D4, 2, 4, 0, 0, 65535, 1)
     return head + struct.pack("<IIII", 0, 0, 0, length) * count
+
+
+def many_sources(count):
+    """A capture of a tagged frame of each of so many sources, a microsecond apart."""
+    text = struct.pack("<IHHiIII", 0xA1B2C3D4, 2, 4, 0, 0, 65535, 1)
+    for at in range(count):
+        source = b"\2\0\0\0" + struct.pack(">H", at)
+        octets = bytes.fromhex("010CCD010001") + source + struct.pack(">HHHH", 0x892F, 52, 0, 0x88B8) + bytes(46)
+        text += struct.pack("<IIII", 0, at, len(octets), len(octets)) + octets
+    return text

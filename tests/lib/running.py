@@ -49,6 +49,7 @@ class Tally:
     wrong: list[str] = field(default_factory=list)
     told: list[str] = field(default_factory=list)
     kinds: Counter = field(default_factory=Counter)
+    reached: Counter = field(default_factory=Counter)  # what came up, and how often; it is shown with --tell
 
     def count(self, what, why):
         """Counts one try: it passed where there is nothing wrong with it."""
@@ -62,6 +63,7 @@ class Tally:
         self.wrong += other.wrong
         self.told += other.told
         self.kinds += other.kinds
+        self.reached += other.reached
 
 
 # ---- programs

@@ -26,7 +26,10 @@ def commands(setting):
         yield "hsr_view", words, transcript
     for words in ([], ["sweep"]):
         yield "hsr_plan", words, plan
-    yield "hsr_tap", ["lines"], (ROOT / "examples" / "captures" / "tcpdump_short.pcap").read_bytes()
+    captures = ROOT / "examples" / "captures"
+    for words in (["lines"], ["health"]):
+        yield "hsr_tap", words, (captures / "tcpdump_short.pcap").read_bytes()
+    yield "hsr_tap", ["judge", "examples/captures/danh.toml"], (captures / "danh.pcapng").read_bytes()
 
 
 def full():

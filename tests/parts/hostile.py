@@ -196,15 +196,26 @@ def jobs_of_plans():
 
 
 def jobs_of_captures():
-    lines = ["hsr_tap", "lines"]
-    return [
-        Job(try_rows, ([("10 MB of random octets", lines, 1, "fault: capture 0 magic")], inputs.random_octets), 1),
-        Job(try_rows, ([("3 GB of zeros", lines, 1, "fault: capture 0 too-large")], same, inputs.ZEROS), 3),
+    lines, health = ["hsr_tap", "lines"], ["hsr_tap", "health"]
+    judge = ["hsr_tap", "judge", "examples/captures/danh.toml"]
+    all_of_them = [(lines, "lines"), (health, "health"), (judge, "judge")]
+    large, many = "fault: capture 0 too-large", "fault: capture 16777240 packets"
+    jobs = [
         Job(try_rows, ([("a million packets of 4 GB, all cut", lines, 0, "skipped 1048576")], inputs.cut_packets, 2**32 - 1), 3),
         Job(try_rows, ([("a million packets of 2 KB, all cut", lines, 1, "fault: memory")], inputs.cut_packets, 2000), 6),
-        Job(try_rows, ([("a packet too many", lines, 1, "fault: capture 16777240 packets")], inputs.cut_packets, 60, 2**20 + 1), 3),
-        Job(try_rows, ([("a folder as input", lines, 1, "fault: read")], same, str(ROOT)), 1),
+        Job(try_rows, ([("a million packets that are cut", health, 2, "doubt empty packet - at - no tagged frame")], inputs.cut_packets, 60), 6),
+        Job(try_rows, ([("1025 sources", health, 1, "fault: capture 0 sources")], inputs.many_sources, 1025), 2),
     ]
+    for words, name in all_of_them:
+        jobs += [
+            Job(try_rows, ([(f"{name}: 10 MB of random octets", words, 1, "fault: capture 0 magic")], inputs.random_octets), 1),
+            Job(try_rows, ([(f"{name}: 3 GB of zeros", words, 1, large)], same, inputs.ZEROS), 3),
+            Job(try_rows, ([(f"{name}: 256 MiB", words, 1, "fault: capture 0 magic")], same, inputs.zeros(2**28)), 1),
+            Job(try_rows, ([(f"{name}: 256 MiB and one octet", words, 1, large)], same, inputs.zeros(2**28 + 1)), 1),
+            Job(try_rows, ([(f"{name}: a packet too many", words, 1, many)], inputs.cut_packets, 60, 2**20 + 1), 3),
+            Job(try_rows, ([(f"{name}: a folder as input", words, 1, "fault: read")], same, str(ROOT)), 1),
+        ]
+    return jobs
 
 
 def jobs(setting):

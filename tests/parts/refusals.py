@@ -113,7 +113,10 @@ def short_rows():
     rows = [("hsr_bench", ["node"], lines), ("hsr_bench", ["run"], ring), ("hsr_bench", ["threads"], ring), ("hsr_bench", ["audit"], transcript)]
     rows += [("hsr_view", [word], transcript) for word in ("picture", "capture", "devices")]
     rows += [("hsr_plan", [], SHORT_PLAN), ("hsr_plan", ["--check"], ring), ("hsr_plan", ["sweep"], SHORT_PLAN)]
-    rows += [("hsr_tap", ["lines", "examples/captures/lines.toml"], (ROOT / "examples" / "captures" / "lines.pcapng").read_bytes())]
+    captures = ROOT / "examples" / "captures"
+    rows += [("hsr_tap", ["lines", "examples/captures/lines.toml"], (captures / "lines.pcapng").read_bytes())]
+    rows += [("hsr_tap", ["health", "--full"], (captures / "tcpdump_down.pcap").read_bytes())]
+    rows += [("hsr_tap", ["judge", "--full", "examples/captures/case_r14.toml"], (captures / "case_r14.pcapng").read_bytes())]
     rows += [(program, ["sweep", "--mode", "X"], b"") for program in ("hsr_bench", "hsr_plan", "hsr_view", "hsr_tap")]
     return [Row(" ".join([program, *words]), program, words, given) for program, words, given in rows]
 

@@ -3,6 +3,7 @@ import struct
 from dataclasses import dataclass, field
 
 MOST_OCTETS, MOST_PACKETS, MOST_INTERFACES = 1 << 28, 1 << 20, 64
+MOST_FILLED = 4096  # octets of a packet with the zeros for what was cut off; a frame has fewer
 KINDS = {1: "short", 2: "long", 3: "group-source", 4: "vlan", 5: "short-tag", 6: "nested-tag"}
 
 
@@ -214,27 +215,27 @@ def frame_of(packet):
     head = 18 if octets[12:14] == b"\x81\x00" else 14
     if cut and (len(octets) < head or octets[head - 2 : head] == b"\x89\x2f" and len(octets) < head + 6):
         return None
-    whole = octets + bytes(packet.length - len(octets))
-    if len(whole) < 14 or len(whole) < head:
+    front, behind = octets[:24].ljust(24, b"\0"), packet.length - head  # the front is as long as any head and tag
+    if packet.length < 14 or behind < 0:
         return 1
-    if len(whole) - head > 1506:
+    if behind > 1506:
         return 2
-    if whole[6] % 2:
+    if front[6] % 2:
         return 3
-    kind = int.from_bytes(whole[head - 2 : head], "big")
+    kind = int.from_bytes(front[head - 2 : head], "big")
     if head == 18 and kind == 0x8100:
         return 4
-    vlan = int.from_bytes(whole[14:16], "big") if head == 18 else None
+    vlan = int.from_bytes(front[14:16], "big") if head == 18 else None
     if kind != 0x892F:
-        return 2 if len(whole) - head > 1500 else Frame(whole[:6], whole[6:12], vlan, kind, octets[head:], len(whole) - head)
-    if len(whole) - head < 6:
+        return 2 if behind > 1500 else Frame(front[:6], front[6:12], vlan, kind, octets[head:], behind)
+    if behind < 6:
         return 5
-    word, number, inner = struct.unpack_from(">HHH", whole, head)
+    word, number, inner = struct.unpack_from(">HHH", front, head)
     if inner == 0x892F:
         return 6
     if inner == 0x8100:
         return 4
-    return Frame(whole[:6], whole[6:12], vlan, inner, octets[head + 6 :], len(whole) - head - 6, word >> 12, word & 4095, number)
+    return Frame(front[:6], front[6:12], vlan, inner, octets[head + 6 :], behind - 6, word >> 12, word & 4095, number)
 
 
 @dataclass

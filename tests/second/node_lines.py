@@ -43,7 +43,7 @@ def passing(packet, ends):
     if way == "lane":
         frame = frame_of(packet)
         is_copy = isinstance(frame, Frame) and frame.number is not None
-        return end, not is_copy or frame.path % 2 != "AB".index(end)
+        return end, not is_copy or frame.path % 2 != "ABCD".index(end) % 2
     if way:
         return end, way == "in"
     if not packet.way:

@@ -72,9 +72,12 @@ def copied(packet, at, octets=None):
     return Packet(at, packet.interface, octets, packet.length if octets == packet.octets else len(octets), packet.way)
 
 
-def lose(chance, packets):
-    share = chance.choice([0.02, 0.1, 0.3])
+def lose_share(chance, packets, share):
     packets[:] = [packet for packet in packets if chance.random() > share]
+
+
+def lose(chance, packets):
+    lose_share(chance, packets, chance.choice([0.02, 0.1, 0.3]))
 
 
 def repeat(chance, packets):

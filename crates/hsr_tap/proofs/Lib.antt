@@ -1,5 +1,8 @@
+pub mod Bounded
 pub mod Ending
+pub mod Examined
 pub mod Given
+pub mod Judged
 pub mod Told
 pub mod Untold
 pub mod Whole

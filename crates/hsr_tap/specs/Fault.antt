@@ -6,6 +6,13 @@ use Rattle.hsr_capture_reader.specs.declared.fault.CaptureFault.TheVariants as c
 use Rattle.hsr_capture_reader.specs.declared.fault.Refusal.{Refusal}
 use Rattle.hsr_capture_reader.specs.declared.fault.ReadFault.{ReadFault}
 use Rattle.hsr_capture_reader.specs.declared.fault.ReadFault.TheVariants as read
+use Rattle.hsr_expected.specs.declared.expected.ExpectedFault.{ExpectedFault}
+use Rattle.hsr_expected.specs.declared.expected.ExpectedFault.TheVariants as expected
+use Rattle.hsr_health.specs.declared.health.HealthFault.{HealthFault}
+use Rattle.hsr_health.specs.declared.health.HealthFault.TheVariants as health
+use Rattle.hsr_judging_text.specs.Judging.{judge_fault_words}
+use Rattle.hsr_judging_text.specs.declared.judging.JudgeFault.{JudgeFault}
+use Rattle.hsr_judging_text.specs.declared.judging.JudgeFault.TheVariants as judge
 use Rattle.hsr_node_lines.specs.declared.fault.LinesFault.{LinesFault}
 use Rattle.hsr_node_lines.specs.declared.fault.LinesFault.TheVariants as lines
 use Rattle.hsr_stimuli.specs.declared.device.NoStimuli.{NoStimuli}
@@ -17,7 +24,7 @@ use Rattle.hsr_text.specs.declared.whole.InputFault.{InputFault}
 use Rattle.hsr_text.specs.declared.whole.InputFault.TheVariants as input
 use Rattle.hsr_toml.specs.Line.{shown}
 use Rattle.hsr_tap.specs.declared.fault.Fault.{Fault}
-use Rattle.hsr_tap.specs.declared.fault.Fault.TheVariants.{Capture, NoDevice, Device, Lines, Stimuli, Read, Write, Memory}
+use Rattle.hsr_tap.specs.declared.fault.Fault.TheVariants.{Capture, NoDevice, Device, Lines, Stimuli, Judge, Sources, NoPlanFile, NoPlan, Read, Write, Memory}
 
 -- what is wrong with a capture
 abbrev pub capture_word : CaptureFault → List ℕ
@@ -56,6 +63,10 @@ fault_words NoDevice = codes "device top read"
 fault_words (Device fault) = codes "device " ++ device_words fault
 fault_words (Lines fault) = lines_words fault
 fault_words (Stimuli fault) = stimuli_words fault
+fault_words (Judge fault) = codes "device " ++ judge_fault_words fault
+fault_words Sources = codes "capture 0 sources"
+fault_words NoPlanFile = codes "expect read"
+fault_words NoPlan = codes "expect plan"
 fault_words Read = codes "read"
 fault_words Write = codes "write"
 fault_words Memory = codes "memory"
@@ -84,3 +95,15 @@ lines_fault fault = Lines fault
 abbrev pub stimuli_fault : NoStimuli → Fault
 stimuli_fault stimuli.NoMemory = Memory
 stimuli_fault fault = Stimuli fault
+
+abbrev pub health_fault : HealthFault → Fault
+health_fault health.Sources = Sources
+health_fault health.Memory = Memory
+
+abbrev pub judge_fault : JudgeFault → Fault
+judge_fault judge.NoMemory = Memory
+judge_fault fault = Judge fault
+
+abbrev pub expected_fault : ExpectedFault → Fault
+expected_fault expected.NoPlan = NoPlan
+expected_fault expected.NoMemory = Memory

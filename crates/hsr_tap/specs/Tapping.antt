@@ -15,7 +15,7 @@ use Rattle.hsr_tap_device.specs.Device.{DeviceFields}
 use Rattle.hsr_tap_device.specs.Reading.{device_of}
 use Rattle.hsr_tap_device.specs.declared.fault.DeviceFault.{DeviceFault}
 use Rattle.hsr_tap.specs.declared.fault.Fault.{Fault}
-use Rattle.hsr_tap.specs.declared.fault.Fault.TheVariants.{Capture, NoDevice, Device, Lines, Stimuli, Read, Write, Memory}
+use Rattle.hsr_tap.specs.declared.fault.Fault.TheVariants.{Capture, NoDevice, Device, Lines, Stimuli, Judge, Sources, NoPlanFile, NoPlan, Read, Write, Memory}
 
 -- the packets of a file in the order of time: those of one moment as the file has them
 pub record AreInOrder (filed packets : List PacketFields) : Type 0 where
@@ -60,6 +60,10 @@ IsUntold document fcs octets (Capture refusal) = IsNoCapture document fcs octets
 IsUntold document fcs octets (Lines fault) = IsTold document fcs octets (Err fault)
 IsUntold document fcs octets NoDevice = ⊥
 IsUntold document fcs octets (Stimuli fault) = ⊥
+IsUntold document fcs octets (Judge fault) = ⊥
+IsUntold document fcs octets Sources = ⊥
+IsUntold document fcs octets NoPlanFile = ⊥
+IsUntold document fcs octets NoPlan = ⊥
 IsUntold document fcs octets Write = ⊥
 IsUntold document fcs octets Read = ⊤
 IsUntold document fcs octets Memory = ⊤
@@ -74,3 +78,9 @@ IsUnlined device capture fault = HasLines device capture (Err fault)
 -- for whatever document describes this device
 abbrev pub Describes : Option DeviceFields → (Option (List ℕ) → Type 0) → Type 0
 Describes device P = (document : Option (List ℕ)) → given_by document ≡ Ok device → P document
+
+-- a reader failed, or room was refused
+abbrev pub IsNoInput : Fault → Type 0
+IsNoInput Read = ⊤
+IsNoInput Memory = ⊤
+IsNoInput fault = ⊥

@@ -3,7 +3,10 @@ ghost use Rattle.std.specs.Prelude.{◌≡◌, ◌++◌, IfOk, OnOk};
 ghost use Rattle.hsr_tap.specs.Fault.{capture_word, capture_words, fault_line, fault_words, lines_words, stimuli_words};
 
 use hsr_capture_reader::{CaptureFault, ReadFault, Refusal};
+use hsr_expected::ExpectedFault;
 use hsr_frame::NoMemory;
+use hsr_health::HealthFault;
+use hsr_judging_text::{JudgeFault, put_judge_fault};
 use hsr_node_lines::LinesFault;
 use hsr_stimuli::NoStimuli;
 use hsr_tap_device::{DeviceFault, put_device_fault};
@@ -24,6 +27,14 @@ pub enum Fault {
     Lines(LinesFault),
     /// The device has no stimuli.
     Stimuli(NoStimuli),
+    /// The device can't be judged by the capture.
+    Judge(JudgeFault),
+    /// The capture has frames of too many sources.
+    Sources,
+    /// There is no file of the plan whose sources are expected.
+    NoPlanFile,
+    /// That file has no plan.
+    NoPlan,
     /// The reader failed.
     Read,
     /// The writer failed.
@@ -113,6 +124,48 @@ impl From<NoStimuli> for Fault {
     }
 }
 
+impl From<HealthFault> for Fault {
+    ghost use Rattle.std.specs.Prelude.{◌≡◌};
+    ghost use Rattle.hsr_tap.specs.Fault.{health_fault};
+
+    ghost from_gives = { λ refused fault. fault ≡ health_fault refused };
+
+    fn from(refused: HealthFault) -> Fault {
+        match refused {
+            HealthFault::Sources => Fault::Sources,
+            HealthFault::Memory => Fault::Memory,
+        }
+    }
+}
+
+impl From<JudgeFault> for Fault {
+    ghost use Rattle.std.specs.Prelude.{◌≡◌};
+    ghost use Rattle.hsr_tap.specs.Fault.{judge_fault};
+
+    ghost from_gives = { λ refused fault. fault ≡ judge_fault refused };
+
+    fn from(refused: JudgeFault) -> Fault {
+        match refused {
+            JudgeFault::NoMemory => Fault::Memory,
+            refused => Fault::Judge(refused),
+        }
+    }
+}
+
+impl From<ExpectedFault> for Fault {
+    ghost use Rattle.std.specs.Prelude.{◌≡◌};
+    ghost use Rattle.hsr_tap.specs.Fault.{expected_fault};
+
+    ghost from_gives = { λ refused fault. fault ≡ expected_fault refused };
+
+    fn from(refused: ExpectedFault) -> Fault {
+        match refused {
+            ExpectedFault::NoPlan => Fault::NoPlan,
+            ExpectedFault::NoMemory => Fault::Memory,
+        }
+    }
+}
+
 /// The word of what is wrong with a capture.
 fn capture_word(fault: CaptureFault) -> &'static str
     ensures { result.now ≡ capture_word fault }
@@ -186,6 +239,13 @@ fn put_words(line: &mut Vec<u8>, fault: &Fault) -> Result<(), NoMemory>
         }
         Fault::Lines(fault) => put_lines_fault(line, fault),
         Fault::Stimuli(fault) => put(line, stimuli_words(*fault)),
+        Fault::Judge(fault) => {
+            put(line, "device ")?;
+            put_judge_fault(line, fault)
+        }
+        Fault::Sources => put(line, "capture 0 sources"),
+        Fault::NoPlanFile => put(line, "expect read"),
+        Fault::NoPlan => put(line, "expect plan"),
         Fault::Read => put(line, "read"),
         Fault::Write => put(line, "write"),
         Fault::Memory => put(line, "memory"),

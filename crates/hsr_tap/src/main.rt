@@ -1,24 +1,36 @@
-//! The program `hsr_tap`: a capture of real traffic of an HSR ring as input of `hsr_bench node`, and stimuli for a device, over a reader
-//! and two writers; and what its arguments ask for.
+//! The program `hsr_tap`: what a capture of real traffic tells of an HSR ring and of a device, the capture as input of `hsr_bench node`, and
+//! stimuli for a device, over a reader and two writers; and what its arguments ask for.
 //!
 //! Its modules, in the order in which to read them:
 //! - `fault`: why nothing is written, and the line that says it
 //! - `running`: the lines of a capture
 //! - `trying`: stimuli for a device
+//! - `reporting`: a report with its verdict
+//! - `examining`: the report on the health of a ring
+//! - `judging`: the report on a device
+//! - `commands`: the commands and their helps, for clap
 //! - `asked`: what the arguments ask for, read by clap
 #![tactic(auto)]
 
 mod asked;
+mod commands;
+mod examining;
 mod fault;
+mod judging;
+mod reporting;
 mod running;
 mod trying;
 
-use crate::asked::{Asked, asked_by};
+use crate::asked::{Asked, Expected, asked_by};
+use crate::examining::{Looking, health_run};
 use crate::fault::Fault;
+use crate::judging::judge_run;
 use crate::running::{tap_run, tell_ending};
 use crate::trying::try_run;
 use hsr_cli::turn_away;
 use hsr_files::text_at;
+use hsr_frame::Mac;
+use hsr_judging_text::Showing;
 use hsr_tap_device::DeviceFault;
 use hsr_text::{InputFault, arguments};
 use hsr_toml::TEXT_LIMIT;
@@ -49,6 +61,79 @@ fn document_given<H: AllocGlobal + Files>(
         Some(path) => Ok(Some(document_at(rt, path)?)),
         None => Ok(None),
     }
+}
+
+/// The text of the plan at a path.
+fn plan_at<H: AllocGlobal + Files>(rt: &H, path: &str) -> Result<Vec<u8>, Fault> {
+    match text_at(rt, rt.alloc(), path, TEXT_LIMIT) {
+        Ok(text) => Ok(text),
+        Err(InputFault::Memory) => Err(Fault::Memory),
+        Err(InputFault::Read) => Err(Fault::NoPlanFile),
+    }
+}
+
+/// Writes the report on the health of the ring of the capture on standard input, in which these sources are expected, or those of a plan, if
+/// one is given. Gives the status of the process.
+fn examine_input<H: AllocGlobal + Input + Print, E: Write>(
+    rt: &H,
+    looking: &Looking<'_>,
+    macs: &[Mac],
+    plan: Option<&[u8]>,
+    errors: &mut E,
+) -> io::Result<u8> {
+    let mut reader = rt.reader();
+    let mut writer = io::writer(rt);
+    health_run(
+        rt.alloc(),
+        looking,
+        macs,
+        plan,
+        &mut reader,
+        &mut writer,
+        errors,
+    )
+}
+
+/// The same, where the plan may stand in a file.
+fn examine_expecting<H: AllocGlobal + Files + Input + Print, E: Write>(
+    rt: &H,
+    looking: &Looking<'_>,
+    expected: &Expected<'_>,
+    errors: &mut E,
+) -> io::Result<u8> {
+    match expected {
+        Expected::Macs(macs) => examine_input(rt, looking, macs.as_slice(), None, errors),
+        Expected::Plan(path) => match plan_at(rt, path) {
+            Ok(text) => examine_input(rt, looking, &[], Some(text.as_slice()), errors),
+            Err(fault) => tell_ending(rt.alloc(), errors, &Err(fault)),
+        },
+    }
+}
+
+/// Writes the report on the device that the document at a path describes, by the capture on standard input, and gives the status of the
+/// process.
+fn judge_input<H: AllocGlobal + Files + Input + Print, E: Write>(
+    rt: &H,
+    device: &str,
+    showing: Showing,
+    fcs: u8,
+    errors: &mut E,
+) -> io::Result<u8> {
+    let document = match document_at(rt, device) {
+        Ok(document) => document,
+        Err(fault) => return tell_ending(rt.alloc(), errors, &Err(fault)),
+    };
+    let mut reader = rt.reader();
+    let mut writer = io::writer(rt);
+    judge_run(
+        rt.alloc(),
+        document.as_str(),
+        showing,
+        fcs,
+        &mut reader,
+        &mut writer,
+        errors,
+    )
 }
 
 /// Writes the lines of the capture on standard input, and gives the status of the process.
@@ -97,6 +182,16 @@ fn run<H: AllocGlobal + Env + Files + Input + Print, E: Write>(
         return Err(io::Error::from(ErrorKind::OutOfMemory));
     };
     let code = match asked_by(rt.alloc(), words.as_slice()) {
+        Ok(Asked::Health { looking, expected }) => {
+            examine_expecting(rt, &looking, &expected, errors)?
+        }
+        Ok(
+            Asked::Judge {
+                device,
+                showing,
+                fcs,
+            },
+        ) => judge_input(rt, device, showing, fcs, errors)?,
         Ok(Asked::Lines { device, fcs }) => tap_input(rt, device, fcs, errors)?,
         Ok(Asked::Stimuli { device, is_list }) => try_device(rt, device, is_list, errors)?,
         Err(fault) => turn_away(errors, &fault)?,

@@ -1,8 +1,9 @@
 //! The lines of a capture that a reader gives, written; or a fault's line.
 ghost use Rattle.std.specs.Prelude.{◌≡◌, ℕ, List, Ok, Err, IfErr, IfOk, IfSome, option_map};
 ghost use Rattle.hsr_tap.specs.Ends.{Ends, IsDelivered, Taps, Tells};
-ghost use Rattle.hsr_capture_reader.specs.Capture.{capture_of};
-ghost use Rattle.hsr_tap.specs.Tapping.{AreInOrder, Describes, HasLines, IsTold, IsUnlined, IsUntold, given_by};
+ghost use Rattle.hsr_capture_reader.specs.Capture.{capture_of, most_octets};
+ghost use Rattle.hsr_text.specs.Whole.{IsWhole};
+ghost use Rattle.hsr_tap.specs.Tapping.{AreInOrder, Describes, HasLines, IsNoInput, IsTold, IsUnlined, IsUntold, given_by};
 
 use crate::fault::{Fault, fault_line};
 use hsr_capture_reader::{Capture, Packet};
@@ -38,7 +39,7 @@ fn given_by(alloc: Global, document: Option<&str>) -> Result<Option<Device>, Fau
 }
 
 /// The packets of a file in the order of time.
-fn in_order<'a>(packets: Vec<Packet<'a>>) -> Result<Vec<Packet<'a>>, NoMemory>
+pub(crate) fn in_order<'a>(packets: Vec<Packet<'a>>) -> Result<Vec<Packet<'a>>, NoMemory>
     ensures { IfOk result (λ after. AreInOrder packets.entry.items after.items) }
 {
     let mut packets = packets;
@@ -104,6 +105,15 @@ fn told(alloc: Global, document: Option<&str>, fcs: u8, octets: &[u8]) -> Result
     lines_in(alloc, device.as_ref(), fcs, octets)
 }
 
+/// The octets that a reader gives, or of too many a front that is too large for a capture.
+#[tactic(auto, using(crate::proofs::Whole::input_failed))]
+pub(crate) fn octets_from<R: Read>(alloc: Global, reader: &mut R) -> Result<Vec<u8>, Fault>
+    ensures whole { IfOk result (λ read. IfSome (R.remaining reader.old) (λ all. IsWhole most_octets all read.items)) }
+    ensures fault { IfErr result (λ fault. IsNoInput fault) }
+{
+    Ok(read_text(alloc, reader, MOST)?)
+}
+
 /// The lines of the capture that a reader gives. Of one that is too large no more is read than what tells it.
 #[tactic(auto, using(crate::proofs::Whole::told_of_whole, crate::proofs::Whole::untold_of_whole, crate::proofs::Whole::no_input))]
 fn told_from<R: Read>(
@@ -117,7 +127,7 @@ fn told_from<R: Read>(
     ensures untold { IfErr result (λ fault. IfSome (R.remaining reader.old) (λ octets.
         IsUntold (option_map (λ s. s.now) document.entry) fcs octets fault)) }
 {
-    let octets = read_text(alloc, reader, MOST)?;
+    let octets = octets_from(alloc, reader)?;
     told(alloc, document, fcs, octets.as_slice())
 }
 

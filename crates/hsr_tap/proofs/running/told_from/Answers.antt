@@ -10,12 +10,12 @@ pub returns-clause-told : goal.returns-clause-told
 returns-clause-told g c =
     let text = g.R.Read.remaining c.args.reader.now in
     let read : List ℕ = c.as_slice.result.now in
-    let whole = subst (λ (octets : List ℕ). IfSome text (λ all. IsWhole most_octets all octets)) (sym c.as_slice.ensures.value) c.in_ok-octets.ensures in
+    let whole = subst (λ (octets : List ℕ). IfSome text (λ all. IsWhole most_octets all octets)) (sym c.as_slice.ensures.value) c.in_ok-octets.ensures.whole in
     IfOk-weaker c.told.result _ _ (λ lines told. told_of_whole _ c.args.fcs text read (Ok lines) whole told) c.told.ensures.told
 
 pub returns-clause-untold : goal.returns-clause-untold
 returns-clause-untold g c =
     let text = g.R.Read.remaining c.args.reader.now in
     let read : List ℕ = c.as_slice.result.now in
-    let whole = subst (λ (octets : List ℕ). IfSome text (λ all. IsWhole most_octets all octets)) (sym c.as_slice.ensures.value) c.in_ok-octets.ensures in
+    let whole = subst (λ (octets : List ℕ). IfSome text (λ all. IsWhole most_octets all octets)) (sym c.as_slice.ensures.value) c.in_ok-octets.ensures.whole in
     IfErr-weaker c.told.result _ _ (λ fault untold. untold_of_whole _ c.args.fcs text read fault whole untold) c.told.ensures.untold

@@ -1,0 +1,15 @@
+use Rattle.std.proofs.Common.{◌≡◌, ℕ, ◌≤◌, ◌++◌, Bool, length, drop}
+use Rattle.hsr_health.specs.Counted.{mark_of}
+use Rattle.hsr_health.specs.Hearing.{those_from, those_of}
+use Rattle.hsr_health.specs.Numbering.{numbered_at}
+use Rattle.hsr_sightings.specs.Read.{TellsEach}
+use Rattle.hsr_sightings.specs.Ring.{Ring}
+use Rattle.hsr_health.proofs.ledger.frame_numbers.Given as goal
+
+-- those so far and those of the copies that are left are all
+abbrev pub invariant-loop-i : goal.invariant-loop-i
+invariant-loop-i l = record {
+  long : length l.numbers.items ≤ l.i;
+  numbers : (is_by_lane : ℕ → Bool) (ring : Ring) → TellsEach (mark_of is_by_lane ring) l.copies l.marks
+      → l.numbers.items ++ those_from (numbered_at l.of_copy l.groups) l.copies l.i (drop l.i l.copies) ≡ those_of (numbered_at l.of_copy l.groups) l.copies;
+}

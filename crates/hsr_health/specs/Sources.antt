@@ -1,0 +1,79 @@
+-- Who sent frames: addresses as numbers.
+use Rattle.std.specs.Prelude.{ℕ, ◌≡◌, ◌+◌, ◌*◌, ◌/◌, ◌%◌, ◌<◌, ◌≤◌, if◌then◌else◌, List, [], ◌∷◌, length, slice_get, slice_index, Contains, Option, Some, None}
+use Rattle.hsr_frame.specs.Address.{IsAddress, is_same_address}
+use Rattle.hsr_frame_groups.specs.Frames.{CaughtFields}
+use Rattle.hsr_health.specs.declared.by_key.KeyCount.{KeyCount}
+
+-- an address is that of a copy's source
+pub record IsSourceOf (copies : List CaughtFields) (mac : List ℕ) : Type 0 where
+  pub place : ℕ
+  pub copy : CaughtFields
+  pub there : slice_get copies place ≡ Some copy
+  pub is : copy.copy.src ≡ mac
+
+-- six octets as a number, the first one the greatest
+abbrev pub number_of : List ℕ → ℕ
+number_of mac =
+    ((((slice_index mac 0 * 256 + slice_index mac 1) * 256 + slice_index mac 2) * 256 + slice_index mac 3) * 256 + slice_index mac 4) * 256 + slice_index mac 5
+
+abbrev pub octet_of : ℕ → ℕ → ℕ
+octet_of number unit = number / unit % 256
+
+abbrev pub address_of : ℕ → List ℕ
+address_of n = octet_of n 1099511627776 ∷ octet_of n 4294967296 ∷ octet_of n 16777216 ∷ octet_of n 65536 ∷ octet_of n 256 ∷ octet_of n 1 ∷ []
+
+-- over 1024 sources, each once
+pub record HasManySources (copies : List CaughtFields) : Type 0 where
+  pub macs : List (List ℕ)
+  pub many : 1024 < length macs
+  pub there : (k : ℕ) (mac : List ℕ) → slice_get macs k ≡ Some mac → IsSourceOf copies mac
+  pub once : (j k : ℕ) (mac : List ℕ) → slice_get macs j ≡ Some mac → slice_get macs k ≡ Some mac → j ≡ k
+
+-- ---- how they are found
+
+abbrev pub source_number : CaughtFields → ℕ
+source_number c = number_of c.copy.src
+
+abbrev pub HaveAddresses : List CaughtFields → Type 0
+HaveAddresses copies = (i : ℕ) (c : CaughtFields) → slice_get copies i ≡ Some c → IsAddress c.copy.src
+
+abbrev pub mac_by : KeyCount → List ℕ
+mac_by own = address_of own.key
+
+-- addresses rise
+abbrev pub Rise : List (List ℕ) → Type 0
+Rise macs = (j k : ℕ) (a b : List ℕ) → j < k → slice_get macs j ≡ Some a → slice_get macs k ≡ Some b → number_of a < number_of b
+
+-- it stands from one index on up to another, or would stand there
+pub record IsPart (macs : List (List ℕ)) (number low high : ℕ) : Type 0 where
+  pub order : low ≤ high
+  pub within : high ≤ length macs
+  pub below : (k : ℕ) (own : List ℕ) → k < low → slice_get macs k ≡ Some own → number_of own < number
+  pub above : (k : ℕ) (own : List ℕ) → high ≤ k → slice_get macs k ≡ Some own → number ≤ number_of own
+
+-- where a number stands, or would stand
+pub record IsPlace (macs : List (List ℕ)) (number place : ℕ) : Type 0 where
+  pub below : (k : ℕ) (own : List ℕ) → k < place → slice_get macs k ≡ Some own → number_of own < number
+  pub above : (k : ℕ) (own : List ℕ) → place ≤ k → slice_get macs k ≡ Some own → number ≤ number_of own
+
+-- a number's index
+pub record IsIndex (macs : List (List ℕ)) (number k : ℕ) : Type 0 where
+  pub own : List ℕ
+  pub there : slice_get macs k ≡ Some own
+  pub is : number_of own ≡ number
+
+-- each of these numbers is that of an address
+abbrev pub AreThere : List ℕ → List (List ℕ) → Type 0
+AreThere numbers macs = (n : ℕ) → Contains numbers n → (k : ℕ) × IsIndex macs n k
+
+pub record AreIndexes (numbers : List ℕ) (macs : List (List ℕ)) (indexes : List ℕ) : Type 0 where
+  pub each : (i n k : ℕ) → slice_get numbers i ≡ Some n → slice_get indexes i ≡ Some k → IsIndex macs n k
+  pub long : length indexes ≡ length numbers
+
+-- an index, if an address stands there
+abbrev pub index_by : ℕ → List ℕ → Option (List ℕ) → Option ℕ
+index_by place mac None = None
+index_by place mac (Some own) = if is_same_address own mac then Some place else None
+
+abbrev pub index_if : List (List ℕ) → ℕ → List ℕ → Option ℕ
+index_if macs place mac = index_by place mac (slice_get macs place)

@@ -1,0 +1,306 @@
+//! The numbers of sources: gaps and restarts. A RedBox and its stations count together, so they are one group.
+ghost use Rattle.std.specs.Prelude.{◌≡◌, ◌<◌, ◌≤◌, ◌^◌, ◌++◌, ℕ, Bool, filter_map, find, length, map, option_to_list, slice_index, IfOk, OnOk};
+ghost use Rattle.hsr_frame.specs.Address.{is_same_address};
+ghost use Rattle.hsr_health.specs.Counted.{changed, mark_of};
+ghost use Rattle.hsr_health.specs.Hearing.{those_of};
+ghost use Rattle.hsr_health.specs.Numbering.{AreByRun, AreGroups, IsFirstSame, IsLedger, group_name, is_numbered, life_number, number_if, numbered_at, sums_by, with_gap, with_gaps, with_restart, with_restarts};
+ghost use Rattle.hsr_sightings.specs.Ring as the_ring;
+ghost use Rattle.hsr_sightings.specs.Read.{TellsEach};
+
+use crate::abouts::About;
+use crate::counts::{Marks, source_of};
+use crate::heard::Heard;
+use hsr_frame::{Mac, NoMemory};
+use hsr_frame_groups::Caught;
+use hsr_number_runs::{Gap, InRun, Numbered, Restart, Runs, elsewhere_of, gaps_of, runs_of};
+use std::alloc::Global;
+
+/// How many gaps a group's numbers have, how many numbers are missing, and how often they began anew.
+#[derive(Clone, Copy, Debug, Default, PartialEq, Eq)]
+pub struct GroupNumbers {
+    pub gaps: u64,
+    pub missing: u64,
+    pub restarts: u64,
+}
+
+/// What the numbers of groups tell.
+#[derive(Drop)]
+pub(crate) struct Ledger {
+    /// Of each group.
+    pub(crate) numbers: Vec<GroupNumbers>,
+    pub(crate) gaps: Vec<Gap>,
+    pub(crate) restarts: Vec<Restart>,
+    /// Of each sender, how many numbers between its own others of its group had.
+    pub(crate) elsewhere: Vec<u64>,
+}
+
+/// What supervision tells of an address.
+fn about_of(abouts: &[About], mac: Mac) -> Option<About>
+    ensures { result ≡ find (λ about. is_same_address about.mac mac) abouts.now }
+{
+    for about in abouts {
+        if about.mac == mac {
+            return Some(*about);
+        }
+    }
+    None
+}
+
+/// The address by which a source's group goes: that of its RedBox, as the last supervision about the source says, or of who sent that;
+/// its own where there is none.
+fn group_name(abouts: &[About], mac: Mac) -> Mac
+    ensures { result ≡ group_name abouts.now mac }
+{
+    match about_of(abouts, mac) {
+        None => mac,
+        Some(about) => about.redbox.unwrap_or(about.source),
+    }
+}
+
+/// Of each source the address by which its group goes.
+fn names_of(alloc: Global, macs: &[Mac], abouts: &[About]) -> Result<Vec<Mac>, NoMemory>
+    ensures { IfOk result (λ names. names.items ≡ map (group_name abouts.now) macs.now) }
+{
+    let mut names = Vec::new(alloc);
+    for mac in macs {
+        names.push(group_name(abouts, *mac))?;
+    }
+    Ok(names)
+}
+
+/// The first of these addresses that is the same as the one at an index, by its own index.
+fn first_same(names: &[Mac], k: usize) -> usize
+    requires { k < length names.now }
+    ensures { IsFirstSame names.now k result }
+{
+    for j in 0..k {
+        if names[j] == names[k] {
+            return j;
+        }
+    }
+    k
+}
+
+/// Of each source the index of its group, among as many groups as there are sources: that of the first source of the group.
+pub(crate) fn groups_of(
+    alloc: Global,
+    macs: &[Mac],
+    abouts: &[About],
+) -> Result<Vec<usize>, NoMemory>
+    ensures long { IfOk result (λ groups. length groups.items ≡ length macs.now) }
+    ensures groups { IfOk result (λ groups. AreGroups (map (group_name abouts.now) macs.now) groups.items) }
+{
+    let names = names_of(alloc, macs, abouts)?;
+    let mut groups = Vec::new(alloc);
+    for k in 0..names.len() {
+        groups.push(first_same(names.as_slice(), k))?;
+    }
+    Ok(groups)
+}
+
+/// The group of a source.
+fn group_of(groups: &[usize], source: usize) -> usize
+    ensures { result ≡ slice_index groups.now source }
+{
+    groups.get(source).copied().unwrap_or(0)
+}
+
+/// The number of a copy that begins a frame and is no clash.
+fn number_if(
+    caught: &Caught<'_>,
+    marks: Marks,
+    i: u32,
+    sender: usize,
+    group: usize,
+) -> Option<Numbered>
+    ensures { result ≡ number_if i sender group (is_numbered marks) caught.now }
+{
+    if marks.begins && !marks.is_clash {
+        Some(Numbered {
+            group,
+            sender,
+            number: caught.copy.seq,
+            at: caught.at,
+            copy: i,
+        })
+    } else {
+        None
+    }
+}
+
+/// Puts a number behind others, if there is one.
+fn put_number(numbers: &mut Vec<Numbered>, number: Option<Numbered>) -> Result<(), NoMemory>
+    ensures { OnOk result (numbers.new.items ≡ numbers.old.items ++ option_to_list number) }
+{
+    if let Some(number) = number {
+        numbers.push(number)?;
+    }
+    Ok(())
+}
+
+/// The numbers of frames, in the order of time: those of copies that begin one and are no clash.
+pub(crate) fn frame_numbers(
+    alloc: Global,
+    copies: &[Caught<'_>],
+    of_copy: &[u32],
+    groups: &[usize],
+    marks: &[Marks],
+) -> Result<Vec<Numbered>, NoMemory>
+    requires few { length copies.now < 2 ^ 32 }
+    requires marks { length marks.now ≡ length copies.now }
+    ensures long { IfOk result (λ numbers. length numbers.items ≤ length copies.now) }
+    ensures numbers { IfOk result (λ numbers. (is_by_lane : ℕ → Bool) (ring : the_ring.Ring) → TellsEach (mark_of is_by_lane ring) copies.now marks.now
+        → numbers.items ≡ those_of (numbered_at of_copy.now groups.now) copies.now) }
+{
+    let mut numbers = Vec::new(alloc);
+    for i in 0..copies.len() {
+        let sender = source_of(of_copy, i as u32);
+        let group = group_of(groups, sender);
+        put_number(
+            &mut numbers,
+            number_if(&copies[i], marks[i], i as u32, sender, group),
+        )?;
+    }
+    Ok(numbers)
+}
+
+/// The number of a supervision frame, by the copy that began it.
+fn life_number(one: &Heard, of_copy: &[u32]) -> Option<Numbered>
+    ensures { result ≡ life_number of_copy.now one.now }
+{
+    if one.begins {
+        let sender = source_of(of_copy, one.copy);
+        Some(Numbered {
+            group: sender,
+            sender,
+            number: one.said.seq,
+            at: one.at,
+            copy: one.copy,
+        })
+    } else {
+        None
+    }
+}
+
+/// The numbers of supervision frames, in the order of time: each source counts its own.
+pub(crate) fn life_numbers(
+    alloc: Global,
+    heard: &[Heard],
+    of_copy: &[u32],
+) -> Result<Vec<Numbered>, NoMemory>
+    ensures { IfOk result (λ numbers. numbers.items ≡ filter_map (life_number of_copy.now) heard.now) }
+{
+    let mut numbers = Vec::new(alloc);
+    for one in heard {
+        put_number(&mut numbers, life_number(one, of_copy))?;
+    }
+    Ok(numbers)
+}
+
+/// With a gap.
+fn with_gap(numbers: GroupNumbers, gap: &Gap) -> GroupNumbers
+    ensures { result ≡ with_gap gap.now numbers }
+{
+    GroupNumbers {
+        gaps: numbers.gaps.saturating_add(1),
+        missing: numbers.missing.saturating_add(gap.missing),
+        restarts: numbers.restarts,
+    }
+}
+
+/// With a restart.
+fn with_restart(numbers: GroupNumbers) -> GroupNumbers
+    ensures { result ≡ with_restart numbers }
+{
+    GroupNumbers {
+        gaps: numbers.gaps,
+        missing: numbers.missing,
+        restarts: numbers.restarts.saturating_add(1),
+    }
+}
+
+/// Counts a gap at its group, if that is among them.
+fn count_gap(numbers: &mut Vec<GroupNumbers>, gap: &Gap)
+    ensures long { length numbers.new.items ≡ length numbers.old.items }
+    ensures numbers { numbers.new.items ≡ changed (with_gap gap.now) gap.now.group numbers.old.items }
+{
+    if gap.group < numbers.len() {
+        numbers[gap.group] = with_gap(numbers[gap.group], gap);
+    }
+}
+
+/// Counts a restart at its group, if that is among them.
+fn count_restart(numbers: &mut Vec<GroupNumbers>, restart: &Restart)
+    ensures long { length numbers.new.items ≡ length numbers.old.items }
+    ensures numbers { numbers.new.items ≡ changed with_restart restart.now.group numbers.old.items }
+{
+    if restart.group < numbers.len() {
+        numbers[restart.group] = with_restart(numbers[restart.group]);
+    }
+}
+
+/// Counts gaps at their groups.
+fn count_gaps(numbers: &mut Vec<GroupNumbers>, gaps: &[Gap])
+    ensures long { length numbers.new.items ≡ length numbers.old.items }
+    ensures numbers { numbers.new.items ≡ with_gaps gaps.now numbers.old.items }
+{
+    for gap in gaps {
+        count_gap(numbers, gap);
+    }
+}
+
+/// Counts restarts at their groups.
+fn count_restarts(numbers: &mut Vec<GroupNumbers>, restarts: &[Restart])
+    ensures long { length numbers.new.items ≡ length numbers.old.items }
+    ensures numbers { numbers.new.items ≡ with_restarts restarts.now numbers.old.items }
+{
+    for restart in restarts {
+        count_restart(numbers, restart);
+    }
+}
+
+/// The sums of each of so many groups.
+fn sums_of(
+    alloc: Global,
+    gaps: &[Gap],
+    restarts: &[Restart],
+    many: usize,
+) -> Result<Vec<GroupNumbers>, NoMemory>
+    ensures { IfOk result (λ numbers. numbers.items ≡ sums_by gaps.now restarts.now many) }
+{
+    let mut numbers = vec![in alloc; GroupNumbers::default(); many]?;
+    count_gaps(&mut numbers, gaps);
+    count_restarts(&mut numbers, restarts);
+    Ok(numbers)
+}
+
+/// Numbers in runs, by run, and then by extended number.
+fn by_run(in_runs: Vec<InRun>) -> Result<Vec<InRun>, NoMemory>
+    ensures { IfOk result (λ sorted. AreByRun in_runs.items sorted.items) }
+{
+    let mut sorted = in_runs;
+    sorted.sort_by_key(|p| (p.run, p.extended))?;
+    Ok(sorted)
+}
+
+/// What numbers tell, which are in the order of time; there are so many senders, and no more groups.
+pub(crate) fn ledger_of(
+    alloc: Global,
+    numbers: &[Numbered],
+    many: usize,
+) -> Result<Ledger, NoMemory>
+    requires { length numbers.now < 2 ^ 31 }
+    ensures { IfOk result (λ ledger. IsLedger numbers.now many ledger) }
+{
+    let Runs { in_runs, restarts } = runs_of(alloc, numbers)?;
+    let in_runs = by_run(in_runs)?;
+    let gaps = gaps_of(alloc, in_runs.as_slice())?;
+    let elsewhere = elsewhere_of(alloc, in_runs.as_slice(), many)?;
+    let numbers = sums_of(alloc, gaps.as_slice(), restarts.as_slice(), many)?;
+    Ok(Ledger {
+        numbers,
+        gaps,
+        restarts,
+        elsewhere,
+    })
+}

@@ -1,0 +1,7 @@
+use Rattle.std.proofs.Common.{◌≡◌, ◌++◌, take}
+use Rattle.std.specs.List.{flat_map}
+use Rattle.hsr_health_text.specs.Kinds.{vlan_line}
+use Rattle.hsr_health_text.proofs.kinds.put_vlans.Given as goal
+
+abbrev pub invariant-loop-kind : goal.invariant-loop-kind
+invariant-loop-kind l = l.text.items ≡ l.initial.text.items ++ flat_map vlan_line (take l.kind-index l.kinds)

@@ -1,0 +1,8 @@
+pub mod Words
+pub mod Interfaces
+pub mod Points
+pub mod Breaks
+pub mod Sources
+pub mod Kinds
+pub mod Reasons
+pub mod Report

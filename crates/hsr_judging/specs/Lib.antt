@@ -1,0 +1,10 @@
+pub mod Agreement
+pub mod Alikeness
+pub mod Windows
+pub mod Matching
+pub mod Partition
+pub mod Numbers
+pub mod Fates
+pub mod Differences
+pub mod Reasons
+pub mod Judged

@@ -1,0 +1,6 @@
+pub mod Copies
+pub mod Joining
+pub mod Order
+pub mod Ordered
+pub mod Ranges
+pub mod Told

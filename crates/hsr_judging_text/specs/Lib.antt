@@ -1,0 +1,9 @@
+pub mod Words
+pub mod Frames
+pub mod Deviations
+pub mod Lines
+pub mod Sums
+pub mod Ports
+pub mod Verdicts
+pub mod Report
+pub mod Judging

@@ -1,0 +1,5 @@
+pub mod Runs
+pub mod Counting
+pub mod Gaps
+pub mod Elsewhere
+pub mod Nearest

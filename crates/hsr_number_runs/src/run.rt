@@ -1,0 +1,267 @@
+//! Numbers put into the run of their group, or into a new one.
+ghost use Rattle.std.specs.Prelude.{◌≡◌, ℕ, ◌+◌, ◌<◌, ◌^◌, ◌∷◌, ◌++◌, if◌then◌else◌, [], List, length, reverse, option_to_list, IfOk, IfSome, OnOk, nat_eq};
+ghost use Rattle.std.specs.HashMap.{get};
+ghost use Rattle.hsr_number_runs.specs.Counting.{IsPlaced, Knows};
+ghost use Rattle.hsr_number_runs.specs.Runs.{begun, extended_by, gone_on, greater, in_runs, is_there, put_in, restart_by, restarts_by, restarts_in, top_of};
+ghost use Rattle.hsr_number_runs.specs.declared.run.InRun.{InRun};
+
+use hsr_frame::NoMemory;
+use std::alloc::Global;
+use std::collections::{HashMap, HashSet};
+
+/// How long a node remembers a frame, in nanoseconds.
+pub const FORGET_TIME: u64 = 400_000_000;
+
+/// A number that is further than this from the greatest so far begins a new run.
+const NEAR: u64 = 4096;
+
+/// How many numbers there are.
+const ROUND: u64 = 65536;
+
+/// A number that came: of which group, who in it sent it, when, and by which copy.
+#[derive(Clone, Copy, Debug, PartialEq, Eq)]
+pub struct Numbered {
+    pub group: usize,
+    pub sender: usize,
+    pub number: u16,
+    pub at: u64,
+    pub copy: u32,
+}
+
+/// A number in a run: extended, it counts on where numbers begin anew, from 65536 on.
+#[derive(Clone, Copy, Debug, PartialEq, Eq)]
+pub struct InRun {
+    pub run: u32,
+    pub extended: u64,
+    pub group: usize,
+    pub sender: usize,
+    pub at: u64,
+    pub copy: u32,
+}
+
+/// A number that began a new run of its group, behind the greatest number of the run before.
+#[derive(Clone, Copy, Debug, PartialEq, Eq)]
+pub struct Restart {
+    pub group: usize,
+    pub sender: usize,
+    pub number: u16,
+    pub copy: u32,
+    /// When it came.
+    pub at: u64,
+    /// The greatest number before, and when it came.
+    pub after: u16,
+    pub since: u64,
+}
+
+/// All numbers, in the order of time, each in its run, and all restarts.
+#[derive(Drop)]
+pub struct Runs {
+    pub in_runs: Vec<InRun>,
+    pub restarts: Vec<Restart>,
+}
+
+/// What is kept of the numbers that came.
+#[derive(Drop)]
+struct Counting {
+    /// Of each group the greatest number of its latest run.
+    tops: HashMap<usize, InRun>,
+    /// The extended numbers of each run.
+    there: HashSet<(u32, u64)>,
+    /// How many runs were begun.
+    runs: u32,
+}
+
+/// A number in its run, and the restart that it is, if it is one.
+#[derive(Clone, Copy)]
+struct Placed {
+    in_run: InRun,
+    restart: Option<Restart>,
+}
+
+/// A number, extended so that it is next to the greatest so far, on whichever side it is nearer.
+fn extended_by(top: u64, number: u16) -> u64
+    ensures { top + 65536 < 2 ^ 64 → result ≡ extended_by top number }
+{
+    let ahead = (u64::from(number) + ROUND - top % ROUND) % ROUND;
+    if ahead < ROUND / 2 {
+        top.saturating_add(ahead)
+    } else {
+        top.saturating_sub(ROUND - ahead)
+    }
+}
+
+/// Whether an extended number begins a new run: it is more than 4096 from the greatest so far, or it isn't greater, and the greatest came
+/// 400 ms ago or more, or the number was there before.
+fn restarts(top: InRun, extended: u64, at: u64, was_there: bool) -> bool
+    ensures { result ≡ restarts_by top extended at was_there }
+{
+    extended.abs_diff(top.extended) > NEAR
+        || (extended <= top.extended && (at.saturating_sub(top.at) >= FORGET_TIME || was_there))
+}
+
+/// A number, put into a run.
+fn put_in(run: u32, extended: u64, n: Numbered) -> InRun
+    ensures { result ≡ put_in run extended n }
+{
+    InRun {
+        run,
+        extended,
+        group: n.group,
+        sender: n.sender,
+        at: n.at,
+        copy: n.copy,
+    }
+}
+
+/// The first number of a run: it counts on from 65536, so that one may be behind it.
+fn begun(run: u32, n: Numbered) -> InRun
+    ensures { result ≡ begun run n }
+{
+    put_in(run, ROUND + u64::from(n.number), n)
+}
+
+/// An extended number in the run of the greatest so far; none where it begins a new one.
+fn gone_in(top: InRun, extended: u64, n: Numbered, was_there: bool) -> Option<InRun>
+    ensures { result ≡ (if restarts_by top extended n.at was_there then None else Some (put_in top.run extended n)) }
+{
+    if restarts(top, extended, n.at, was_there) {
+        None
+    } else {
+        Some(put_in(top.run, extended, n))
+    }
+}
+
+/// The greater one of a number and the greatest before it; in a new run it is the first.
+fn greater(p: InRun, top: Option<InRun>) -> InRun
+    ensures { result ≡ greater p top }
+{
+    match top {
+        None => p,
+        Some(top) => {
+            if p.run == top.run && p.extended <= top.extended {
+                top
+            } else {
+                p
+            }
+        }
+    }
+}
+
+/// The restart that a number is, by the greatest before it and by the number in the run that goes on.
+fn restart_by(n: Numbered, top: Option<InRun>, gone: Option<InRun>) -> Option<Restart>
+    ensures { result ≡ restart_by n top gone }
+{
+    match (top, gone) {
+        (Some(top), None) => Some(Restart {
+            group: n.group,
+            sender: n.sender,
+            number: n.number,
+            copy: n.copy,
+            at: n.at,
+            after: (top.extended % ROUND) as u16,
+            since: top.at,
+        }),
+        _ => None,
+    }
+}
+
+/// Puts a restart behind others, if there is one.
+fn put_restart(restarts: &mut Vec<Restart>, restart: Option<Restart>) -> Result<(), NoMemory>
+    ensures { OnOk result (restarts.new.items ≡ restarts.old.items ++ option_to_list restart) }
+{
+    if let Some(restart) = restart {
+        restarts.push(restart)?;
+    }
+    Ok(())
+}
+
+impl Counting {
+    /// Nothing came.
+    fn new(alloc: Global) -> Counting
+        ensures { Knows result [] }
+    {
+        Counting {
+            tops: HashMap::new(alloc),
+            there: HashSet::new(alloc),
+            runs: 0,
+        }
+    }
+
+    /// The greatest number of a group's latest run.
+    fn top_of(&self, group: usize) -> Option<InRun>
+        ensures { result ≡ get nat_eq self.now.tops group }
+    {
+        self.tops.get(&group).copied()
+    }
+
+    /// Whether a run has an extended number.
+    fn is_there(&self, run: u32, extended: u64) -> bool
+        ensures { (before : List InRun) → Knows self.now before → result ≡ is_there run extended before }
+    {
+        self.there.contains(&(run, extended))
+    }
+
+    /// The number in the run that has this greatest one so far; none where it begins a new run.
+    fn gone_from(&self, n: Numbered, top: InRun) -> Option<InRun>
+        ensures { (before : List InRun) → Knows self.now before → top.extended + 65536 < 2 ^ 64 → result ≡ gone_on before n (Some top) }
+    {
+        let extended = extended_by(top.extended, n.number);
+        let was_there = self.is_there(top.run, extended);
+        gone_in(top, extended, n, was_there)
+    }
+
+    /// The number in the run that goes on, by the greatest so far; none where it begins a new run.
+    fn gone_on(&self, n: Numbered, top: Option<InRun>) -> Option<InRun>
+        ensures { (before : List InRun) → Knows self.now before → IfSome top (λ t. t.extended + 65536 < 2 ^ 64)
+            → result ≡ gone_on before n top }
+    {
+        match top {
+            None => None,
+            Some(top) => self.gone_from(n, top),
+        }
+    }
+
+    /// A number in its run.
+    fn place(&self, n: Numbered) -> Placed
+        ensures { (before : List InRun) → Knows self.now before → ((group : ℕ) → IfSome (top_of group before) (λ t. t.extended + 65536 < 2 ^ 64))
+            → IsPlaced before n result }
+    {
+        let top = self.top_of(n.group);
+        let gone = self.gone_on(n, top);
+        let first = begun(self.runs, n);
+        let in_run = gone.unwrap_or(first);
+        let restart = restart_by(n, top, gone);
+        Placed { in_run, restart }
+    }
+
+    /// Puts a number that is in a run.
+    fn put(&mut self, alloc: Global, p: InRun) -> Result<(), NoMemory>
+        requires { p.run + 1 < 2 ^ 32 }
+        ensures { OnOk result ((before : List InRun) → Knows self.old before → Knows self.new (p ∷ before)) }
+    {
+        let own = self.top_of(p.group);
+        let top = greater(p, own);
+        self.tops.insert(p.group, top)?;
+        self.there.insert((p.run, p.extended))?;
+        self.runs = self.runs.max(p.run + 1);
+        Ok(())
+    }
+}
+
+/// Numbers in the order of time, put into runs, and the restarts among them. `NoMemory` where room is refused.
+pub fn runs_of(alloc: Global, numbers: &[Numbered]) -> Result<Runs, NoMemory>
+    requires { length numbers.now < 2 ^ 31 }
+    ensures in_runs { IfOk result (λ runs. runs.in_runs.items ≡ reverse (in_runs (reverse numbers.now))) }
+    ensures restarts { IfOk result (λ runs. runs.restarts.items ≡ restarts_in (reverse numbers.now)) }
+{
+    let mut counting = Counting::new(alloc);
+    let mut in_runs = Vec::new(alloc);
+    let mut restarts = Vec::new(alloc);
+    for n in numbers {
+        let placed = counting.place(*n);
+        counting.put(alloc, placed.in_run)?;
+        in_runs.push(placed.in_run)?;
+        put_restart(&mut restarts, placed.restart)?;
+    }
+    Ok(Runs { in_runs, restarts })
+}

@@ -1,0 +1,2 @@
+pub mod Previous
+pub mod Ready

@@ -1,0 +1,13 @@
+pub mod Frames
+pub mod Ring
+pub mod Keys
+pub mod Copies
+pub mod Sightings
+pub mod Seen
+pub mod Read
+pub mod Again
+pub mod Clash
+pub mod Passed
+pub mod Finding
+pub mod Demand
+pub mod Crowding

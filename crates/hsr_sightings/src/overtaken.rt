@@ -1,0 +1,187 @@
+//! Copies behind a greater number of their source and priority, on their direction.
+ghost use Rattle.std.specs.Prelude.{◌≡◌, ◌<◌, ◌++◌, length, option_to_list, IfOk, OnOk};
+ghost use Rattle.hsr_previous.specs.Previous.{ArePrevious};
+ghost use Rattle.hsr_frame_groups.specs.Frames.{frame_time};
+ghost use Rattle.hsr_sightings.specs.Copies.{carried_before, is_behind, is_passed};
+ghost use Rattle.hsr_sightings.specs.Keys.{beside_key, priority_of};
+ghost use Rattle.hsr_sightings.specs.Passed.{AreBesideKeys, AreTops, is_passed_at, overtaken_in, top_after, top_by};
+ghost use Rattle.hsr_sightings.specs.Read.{AreOvertaken, AreRead, TellsEach};
+
+use crate::ring::FORGET_TIME;
+use hsr_frame::NoMemory;
+use hsr_frame_groups::{Caught, FRAME_TIME};
+use hsr_previous::{Keyed, previous_of};
+use std::alloc::Global;
+
+/// A copy that was overtaken, by its index, and the number that it is behind.
+#[derive(Clone, Copy, Debug, PartialEq, Eq)]
+pub struct Overtaken {
+    pub copy: u32,
+    pub behind: u16,
+}
+
+/// The priority of a copy's VLAN tag.
+fn priority_of(caught: &Caught<'_>) -> u16
+    ensures same { result ≡ priority_of caught.now }
+    ensures small { result < 8 }
+{
+    caught.copy.vlan.unwrap_or(0) / 8192
+}
+
+/// A direction, a priority and a source, as one number.
+fn key_of(caught: &Caught<'_>) -> u64
+    requires { caught.now.direction < 320 }
+    ensures { result ≡ beside_key caught.now }
+{
+    let [a, b, c, d, e, f] = caught.copy.src.octets();
+    let place = caught.direction as u64 * 8 + u64::from(priority_of(caught));
+    u64::from_be_bytes([a, b, c, d, e, f, 0, 0]) + place
+}
+
+/// Of each copy its moment, and its direction, priority and source as one number.
+fn keys_of(alloc: Global, copies: &[Caught<'_>], firsts: &[u32]) -> Result<Vec<Keyed>, NoMemory>
+    requires { AreRead copies.now firsts.now }
+    ensures { IfOk result (λ keys. AreBesideKeys copies.now keys.items) }
+{
+    let mut keys = Vec::new(alloc);
+    for i in 0..copies.len() {
+        let caught = &copies[i];
+        keys.push(Keyed {
+            at: caught.at,
+            key: key_of(caught),
+        })?;
+    }
+    Ok(keys)
+}
+
+/// Whether a number is behind another one, by at most 4096.
+fn is_behind(number: u16, top: u16) -> bool
+    ensures { result ≡ is_behind number top }
+{
+    (u32::from(number) + 65536 - u32::from(top)) % 65536 >= 61440
+}
+
+/// Whether a copy is behind the greatest so far, less than 400 ms after that.
+fn is_passed(top: &Caught<'_>, caught: &Caught<'_>) -> bool
+    ensures { result ≡ is_passed (Some top.now) caught.now }
+{
+    is_behind(caught.copy.seq, top.copy.seq) && caught.at.saturating_sub(top.at) < FORGET_TIME
+}
+
+/// The same of the copy at an index, where the greatest so far is told by its index.
+fn is_passed_at(copies: &[Caught<'_>], top: Option<u32>, i: usize) -> bool
+    requires { i < length copies.now }
+    ensures { result ≡ is_passed_at copies.now top i }
+{
+    let Some(k) = top else {
+        return false;
+    };
+    match copies.get(k as usize) {
+        None => false,
+        Some(top) => is_passed(top, &copies[i]),
+    }
+}
+
+/// The greatest so far at the previous copy; none where there is none.
+fn top_by(tops: &[Option<u32>], found: Option<u32>) -> Option<u32>
+    ensures { result ≡ top_by tops.now found }
+{
+    match found {
+        None => None,
+        Some(j) => tops.get(j as usize).copied().unwrap_or(None),
+    }
+}
+
+/// The greatest so far, with the copy at an index.
+fn top_after(copies: &[Caught<'_>], carried: u32, top: Option<u32>, i: u32) -> Option<u32>
+    requires { i < length copies.now }
+    ensures { result ≡ top_after copies.now carried top i }
+{
+    if carried == 0 && !is_passed_at(copies, top, i as usize) {
+        Some(i)
+    } else {
+        top
+    }
+}
+
+/// Of each copy the greatest so far with it, by its index: of the first copies of frames on its direction, of its source and priority.
+/// None where it came 400 ms ago or more.
+fn tops_of(
+    alloc: Global,
+    copies: &[Caught<'_>],
+    firsts: &[u32],
+    carried: &[u32],
+    keys: &[Keyed],
+    previous: &[Option<u32>],
+) -> Result<Vec<Option<u32>>, NoMemory>
+    requires read { AreRead copies.now firsts.now }
+    requires carried { TellsEach carried_before copies.now carried.now }
+    requires keys { AreBesideKeys copies.now keys.now }
+    requires found { ArePrevious frame_time keys.now previous.now }
+    ensures { IfOk result (λ tops. AreTops copies.now (length copies.now) tops.items) }
+{
+    let mut tops = Vec::new(alloc);
+    for i in 0..copies.len() {
+        let before = top_by(tops.as_slice(), previous[i]);
+        tops.push(top_after(copies, carried[i], before, i as u32))?;
+    }
+    Ok(tops)
+}
+
+/// What is told of the copy at an index, if it was overtaken.
+fn overtaken_in(copies: &[Caught<'_>], carried: u32, top: Option<u32>, i: u32) -> Option<Overtaken>
+    requires { i < length copies.now }
+    ensures { result ≡ overtaken_in copies.now carried top i }
+{
+    let Some(k) = top else {
+        return None;
+    };
+    let Some(top) = copies.get(k as usize) else {
+        return None;
+    };
+    if carried == 0 && is_passed(top, &copies[i as usize]) {
+        Some(Overtaken {
+            copy: i,
+            behind: top.copy.seq,
+        })
+    } else {
+        None
+    }
+}
+
+/// Puts what is told of a copy, if it was overtaken, behind others.
+fn put_overtaken(overtaken: &mut Vec<Overtaken>, own: Option<Overtaken>) -> Result<(), NoMemory>
+    ensures { OnOk result (overtaken.new.items ≡ overtaken.old.items ++ option_to_list own) }
+{
+    if let Some(own) = own {
+        overtaken.push(own)?;
+    }
+    Ok(())
+}
+
+/// The copies that were overtaken, in the order of time: the first copy of a frame on its direction, behind a greater number of its
+/// source and priority, less than 400 ms after that.
+pub fn overtaken_of(
+    alloc: Global,
+    copies: &[Caught<'_>],
+    firsts: &[u32],
+    carried: &[u32],
+) -> Result<Vec<Overtaken>, NoMemory>
+    requires read { AreRead copies.now firsts.now }
+    requires carried { TellsEach carried_before copies.now carried.now }
+    ensures { IfOk result (λ overtaken. AreOvertaken copies.now overtaken.items) }
+{
+    let keys = keys_of(alloc, copies, firsts)?;
+    let found = previous_of(alloc, keys.as_slice(), FRAME_TIME)?;
+    let previous = found.as_slice();
+    let tops = tops_of(alloc, copies, firsts, carried, keys.as_slice(), previous)?;
+    let mut overtaken = Vec::new(alloc);
+    for i in 0..copies.len() {
+        let before = top_by(tops.as_slice(), previous[i]);
+        put_overtaken(
+            &mut overtaken,
+            overtaken_in(copies, carried[i], before, i as u32),
+        )?;
+    }
+    Ok(overtaken)
+}

@@ -1,0 +1,4 @@
+pub mod Faults
+pub mod Headings
+pub mod Interfaces
+pub mod Shown
