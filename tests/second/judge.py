@@ -23,7 +23,7 @@ IGNORED = ("path", "padding", "life-up", "life-payload", "interlink-source", "in
 RING = "ABCD"
 FORGET, BEGUN, LEAST, SHOWN = 400_000, 800_000, 52, 32
 MOST = 1525  # octets of a packet that are told: a frame has fewer
-TABLES = [2**n for n in range(16)]  # entries of a reference node's table
+TABLES = [*(2**n for n in range(16)), 65535]  # entries of a reference node's table
 ABOUT_END = 12  # where the address of supervision ends
 
 
@@ -622,12 +622,12 @@ def told(octets, device, list=100, octets_all=False, full=False, fcs=0):
     capture = captures.read(octets, fcs)
     packets = sorted(capture.packets, key=lambda packet: packet.moment)
     start = packets[0].moment if packets else 0
-    if device.get("table", 512) not in TABLES:
-        raise Fault("device table bad-value")
     ends = ends_of(capture, device)
     device = completed(device, capture, ends, start)
     packets = [packet for packet in packets if device["from_us"] <= (packet.moment - start) // 1000 <= device["until_us"]]
     passed = passed_of(packets, ends, start)
+    if device["table"] not in TABLES:
+        raise Fault("device table bad-value")
     seen = [copy for copy in passed if not copy.is_in]
     search = Play(device, passed, {})
     matched(device, search.wanted, seen, True, {})

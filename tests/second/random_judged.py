@@ -498,7 +498,7 @@ def device_of(chance):
         if chance.random() < 0.6:
             device["mode"] = chance.choice("HNU")
     if chance.random() < 0.5:
-        device["table"] = chance.choice([4, 4, 4, 8, 8, 16, 512] if chance.random() < 0.98 else [1, 3, 100, 65536])
+        device["table"] = chance.choice([4, 4, 4, 8, 8, 16, 512] if chance.random() < 0.98 else [1, 3, 100, 65535, 65536])
     return device
 
 

@@ -6,47 +6,16 @@ use Rattle.std.proofs.lemmas.List.{length-map, map-append, take_more}
 use Rattle.std.proofs.lemmas.List.Elements.{Contains-get_or}
 use Rattle.std.proofs.lemmas.Option.{get_or_from_slice_get, none-some, same_Some, slice_get-get_or, slice_get-map, slice_get_within}
 use Rattle.std.proofs.lemmas.Slice.Eq.{bytes_eq-Decides}
+use Rattle.hsr_address.specs.Numbers.{address_of, number_of}
+use Rattle.hsr_address.proofs.Numbering.{address_back}
 use Rattle.hsr_frame.specs.Address.{IsAddress, is_same_address}
 use Rattle.hsr_frame_groups.specs.Frames.{CaughtFields}
 use Rattle.hsr_health.specs.ByKey.{AreCountsOf}
 use Rattle.hsr_health.specs.Counted.{AreSources}
-use Rattle.hsr_health.specs.Sources.{AreIndexes, AreThere, HasManySources, HaveAddresses, IsIndex, IsPart, IsPlace, IsSourceOf, Rise, address_of, index_by, index_if, mac_by, number_of, octet_of, source_number}
+use Rattle.hsr_health.specs.Sources.{AreIndexes, AreThere, HasManySources, HaveAddresses, IsIndex, IsPart, IsPlace, IsSourceOf, Rise, index_by, index_if, mac_by, source_number}
 use Rattle.hsr_health.specs.declared.by_key.KeyCount.{KeyCount}
 use Rattle.hsr_health.proofs.Sorting.{mapped_from}
 use Rattle.hsr_sightings.proofs.Gathering.{slice_get_push}
-
--- ---- addresses
-
-six_octets : (mac : List ℕ) → length mac ≡ 6
-    → mac ≡ slice_index mac 0 ∷ slice_index mac 1 ∷ slice_index mac 2 ∷ slice_index mac 3 ∷ slice_index mac 4 ∷ slice_index mac 5 ∷ []
-six_octets [] long = absurd (omega (arith, long))
-six_octets (a ∷ []) long = absurd (omega (arith, long))
-six_octets (a ∷ b ∷ []) long = absurd (omega (arith, long))
-six_octets (a ∷ b ∷ c ∷ []) long = absurd (omega (arith, long))
-six_octets (a ∷ b ∷ c ∷ d ∷ []) long = absurd (omega (arith, long))
-six_octets (a ∷ b ∷ c ∷ d ∷ e ∷ []) long = absurd (omega (arith, long))
-six_octets (a ∷ b ∷ c ∷ d ∷ e ∷ f ∷ []) long = refl
-six_octets (a ∷ b ∷ c ∷ d ∷ e ∷ f ∷ g ∷ mac) long = absurd (omega (arith, long))
-
-six_same : (a b c d e f p q r s t u : ℕ) → a ≡ p → b ≡ q → c ≡ r → d ≡ s → e ≡ t → f ≡ u → a ∷ b ∷ c ∷ d ∷ e ∷ f ∷ [] ≡ p ∷ q ∷ r ∷ s ∷ t ∷ u ∷ []
-six_same a b c d e f p q r s t u a_is b_is c_is d_is e_is f_is = cc
-
-digits : (a b c d e f n : ℕ) → a < 256 → b < 256 → c < 256 → d < 256 → e < 256 → f < 256 → n ≡ ((((a * 256 + b) * 256 + c) * 256 + d) * 256 + e) * 256 + f
-    → address_of n ≡ a ∷ b ∷ c ∷ d ∷ e ∷ f ∷ []
-digits a b c d e f n a_low b_low c_low d_low e_low f_low is =
-    let first : n / 1099511627776 % 256 ≡ a = omega (arith, is, a_low, b_low, c_low, d_low, e_low, f_low) in
-    let second : n / 4294967296 % 256 ≡ b = omega (arith, is, a_low, b_low, c_low, d_low, e_low, f_low) in
-    let third : n / 16777216 % 256 ≡ c = omega (arith, is, a_low, b_low, c_low, d_low, e_low, f_low) in
-    let fourth : n / 65536 % 256 ≡ d = omega (arith, is, a_low, b_low, c_low, d_low, e_low, f_low) in
-    let fifth : n / 256 % 256 ≡ e = omega (arith, is, a_low, b_low, c_low, d_low, e_low, f_low) in
-    let last : n / 1 % 256 ≡ f = omega (arith, is, a_low, b_low, c_low, d_low, e_low, f_low) in
-    six_same _ _ _ _ _ _ a b c d e f first second third fourth fifth last
-
-address_back : (mac : List ℕ) → IsAddress mac → address_of (number_of mac) ≡ mac
-address_back mac is =
-    digits (slice_index mac 0) (slice_index mac 1) (slice_index mac 2) (slice_index mac 3) (slice_index mac 4) (slice_index mac 5) (number_of mac) (is.each 0) (is.each 1) (is.each 2) (is.each 3) (is.each 4)
-    (is.each 5) refl
-    ∙ sym (six_octets mac is.six)
 
 -- ---- places
 

@@ -25,7 +25,7 @@ use Rattle.hsr_health.proofs.Ranking.{flat_more}
 use Rattle.hsr_health.proofs.Sighted.{AreSeenAs, IsSeenAs, all_seen, came_same, is_first, seen_push}
 use Rattle.hsr_health.proofs.Skewing.{owner_same}
 use Rattle.hsr_health.proofs.Sourcing.{changed_at, is_other, is_own}
-use Rattle.hsr_health.proofs.Spreading.{replicated}
+use Rattle.hsr_spread.proofs.Spreading.{replicated}
 use Rattle.hsr_sightings.proofs.Counting.{slice_get_end}
 
 -- ---- marks

@@ -18,8 +18,8 @@ use Rattle.hsr_taps.specs.declared.tapping.Stray.{Stray}
 use Rattle.hsr_taps.proofs.Coming.{few_looked}
 use Rattle.hsr_health.specs.Kinds.{HaveInterfaces}
 use Rattle.hsr_health.specs.Whole.{AreCaught, AreFindings, AreReasons, IsBounded, IsTraffic, ring_in}
-use Rattle.hsr_health.specs.declared.health.Findings.{Findings}
-use Rattle.hsr_health.specs.declared.health.Traffic.{Traffic}
+use Rattle.hsr_health.specs.declared.findings.Findings.{Findings}
+use Rattle.hsr_health.specs.declared.traffic.Traffic.{Traffic}
 use Rattle.hsr_health.specs.declared.reason.Reason.{Reason}
 
 pub reasons_same : (ring : Ring) (taps : List Taps) (copies copies' : List CaughtFields) (many : ℕ) (findings : Findings) (losses losses' : List Losses) (asked asked' : List Bool) (absent absent' : List (List ℕ))

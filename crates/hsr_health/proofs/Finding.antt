@@ -2,8 +2,8 @@
 use Rattle.std.proofs.Common.{◌≡◌, ℕ, zero, suc, ◌+◌, ◌<◌, ◌≤◌, ◌&&◌, Bool, true, false, cond, ◌⊎◌, inl, inr, List, [], ◌∷◌, ◌++◌, get_or, length, map, take, refl, sym, ap, ◌∙◌, arith, Option, Some, None}
 use Rattle.std.specs.Prelude.{nat_eq, nat_lt, count_by, filter, find, slice_get, sum_by}
 use Rattle.std.specs.List.{range_with_len}
-use Rattle.std.proofs.lemmas.List.{map-id}
-use Rattle.std.proofs.lemmas.List.FromFn.{get_or-map-range_with_len, length-map-range_with_len, map-range_with_len_more, sum_by-map-range_with_len_more}
+use Rattle.std.proofs.lemmas.List.{map-id, take_all}
+use Rattle.std.proofs.lemmas.List.FromFn.{get_or-map-range_with_len, get_or-range_with_len, length-map-range_with_len, length-range_with_len, map-range_with_len_more, sum_by-map-range_with_len_more}
 use Rattle.std.proofs.lemmas.List.Sums.{sum_by-cons}
 use Rattle.std.proofs.lemmas.Bool.{cases_lt, eqb-true}
 use Rattle.std.proofs.lemmas.Bool.Decides.{nat_tests}
@@ -68,6 +68,33 @@ range_sum f n =
     ap (sum_by f) (sym (map-id (range_with_len 0 (n + 1)))) ∙ sum_by-map-range_with_len_more f (λ (k : ℕ). k) 0 n n (omega arith)
     ∙ ap (λ l. sum_by f l + f n) (map-id (range_with_len 0 n))
 
+-- what is found tells whether a sum is 0
+pub no_sum : {X : Type 0} (f : X → ℕ) (xs : List X) → find (λ x. nat_lt 0 (f x)) xs ≡ None → sum_by f xs ≡ 0
+no_sum f [] none = refl
+no_sum f (x ∷ xs) none =
+    let first = first_is_not (λ y. nat_lt 0 (f y)) x xs (nat_lt 0 (f x)) refl none in
+    let nothing = no_more 0 (f x) first.0 in
+    let rest = no_sum f xs first.1 in
+    let all = sum_by-cons f x xs in
+    omega (arith, nothing, rest, all)
+  where
+    no_more : (m n : ℕ) → nat_lt m n ≡ false → n ≤ m
+    no_more m n is = grind (arith, nat_tests)
+
+pub some_sum : {X : Type 0} (f : X → ℕ) (xs : List X) (y : X) → find (λ x. nat_lt 0 (f x)) xs ≡ Some y → 0 < sum_by f xs
+some_sum f [] y found = absurd cc
+some_sum f (x ∷ xs) y found = by_first (λ e. some_sum f xs y e) (nat_lt 0 (f x)) refl
+  where
+    more : (m n : ℕ) → nat_lt m n ≡ true → m < n
+    more m n is = grind (arith, nat_tests)
+
+    by_first : (find (λ z. nat_lt 0 (f z)) xs ≡ Some y → 0 < sum_by f xs) → (b : Bool) → nat_lt 0 (f x) ≡ b → 0 < sum_by f (x ∷ xs)
+    by_first later true is = let own = more 0 (f x) is in let all = sum_by-cons f x xs in omega (arith, own, all)
+    by_first later false is =
+        let rest = later (sym (ap (λ b. cond b (Some x) (find (λ z. nat_lt 0 (f z)) xs)) is) ∙ found) in
+        let all = sum_by-cons f x xs in
+        omega (arith, rest, all)
+
 -- ---- lists that have something, or nothing
 
 pub none_length : {X : Type 0} (xs : List X) (b : Bool) → b ≡ nat_eq (length xs) 0 → b ≡ true → length xs ≡ 0
@@ -117,6 +144,25 @@ within_all : (flags : List Bool) (k : ℕ) (b : Bool) → slice_get flags k ≡ 
 within_all [] k b here = absurd cc
 within_all (a ∷ flags) zero b here = cc
 within_all (a ∷ flags) (suc k) b here = within_all flags k b here
+
+in_place : (n i : ℕ) → i < n → i ≡ get_or (range_with_len 0 n) i 0
+in_place n i below = let own = get_or-range_with_len 0 n i 0 below in omega (arith, own)
+
+-- of the numbers below one, the first that is such
+pub none_more_in_range : (p : ℕ → Bool) (n i : ℕ) → i < n → p i ≡ false → find p (take i (range_with_len 0 n)) ≡ None → find p (take (i + 1) (range_with_len 0 n)) ≡ None
+none_more_in_range p n i below fails none =
+    let long = length-range_with_len 0 n in
+    find_none_more p (range_with_len 0 n) i i 0 (omega (arith, below, long)) (in_place n i below) fails none
+
+pub here_in_range : (p : ℕ → Bool) (n i : ℕ) → i < n → p i ≡ true → find p (take i (range_with_len 0 n)) ≡ None → find p (range_with_len 0 n) ≡ Some i
+here_in_range p n i below holds none =
+    let long = length-range_with_len 0 n in
+    find_here p (range_with_len 0 n) i i 0 (omega (arith, below, long)) (in_place n i below) holds none
+
+pub none_in_range : (p : ℕ → Bool) (n i : ℕ) → n ≤ i → find p (take i (range_with_len 0 n)) ≡ None → find p (range_with_len 0 n) ≡ None
+none_in_range p n i past none =
+    let long = length-range_with_len 0 n in
+    ap (find p) (sym (take_all i (range_with_len 0 n) (omega (arith, past, long)))) ∙ none
 
 -- of so many, one
 pub in_range : (f : ℕ → Bool) (n k : ℕ) → is_at (map f (range_with_len 0 n)) k ≡ (nat_lt k n && f k)

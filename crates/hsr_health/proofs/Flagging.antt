@@ -1,5 +1,5 @@
 -- Reasons that count copies, by flags.
-use Rattle.std.proofs.Common.{◌≡◌, ℕ, zero, suc, ◌+◌, ◌-◌, ◌<◌, ◌≤◌, Bool, true, false, cond, List, [], ◌∷◌, ◌++◌, get_or, length, reverse, take, ◌⊎◌, inl, inr, refl, sym, ap, ◌∙◌, arith, Option, Some, None}
+use Rattle.std.proofs.Common.{◌≡◌, ℕ, zero, suc, ◌+◌, ◌-◌, ◌<◌, ◌≤◌, Bool, true, false, cond, List, [], ◌∷◌, ◌++◌, get_or, length, reverse, take, ◌⊎◌, inl, inr, refl, sym, ap, subst, ◌∙◌, arith, Option, Some, None}
 use Rattle.std.specs.Prelude.{count_by, slice_get}
 use Rattle.std.proofs.lemmas.Bool.{cases_lt}
 use Rattle.std.proofs.lemmas.List.{take_all}
@@ -7,18 +7,22 @@ use Rattle.std.proofs.lemmas.List.Sums.{get_or-le-sum_by, sum_by-cons}
 use Rattle.std.proofs.lemmas.Option.{get_or_from_slice_get, same_Some, slice_get_within}
 use Rattle.hsr_frame_groups.specs.Frames.{CaughtFields, past_of}
 use Rattle.hsr_sightings.specs.Copies.{carried_before, count_copies, first_such}
-use Rattle.hsr_sightings.specs.Read.{TellsEach}
+use Rattle.hsr_sightings.specs.Read.{AreSightings, TellsEach}
 use Rattle.hsr_sightings.specs.Ring.{Ring}
+use Rattle.hsr_sightings.specs.declared.sighting.Sighting.{Sighting}
 use Rattle.hsr_health.specs.Counted.{mark_of}
-use Rattle.hsr_health.specs.Told.{IsFirstFlag, IsOfCopies, IsReasonAt, is_marked, spot_if, such_of, word_of}
+use Rattle.hsr_health.specs.Told.{IsFirstFlag, IsOfCopies, IsToldWith, first_told, is_marked, spot_if, spot_of, such_of, word_of}
+use Rattle.hsr_health.specs.What.{copy_what, copy_what_by}
 use Rattle.hsr_health.specs.declared.copy_reasons.Mark.{Mark}
 use Rattle.hsr_health.specs.declared.copy_reasons.Mark.TheVariants as the_mark
 use Rattle.hsr_health.specs.declared.counts.Marks.{Marks}
 use Rattle.hsr_health.specs.declared.reason.Reason.{Reason}
+use Rattle.hsr_health.specs.declared.reason.What.{What}
 use Rattle.hsr_health.proofs.Fating.{count_push}
 use Rattle.hsr_health.proofs.Pasts.{past_more}
 use Rattle.hsr_health.proofs.Sourcing.{first_later, first_now}
 use Rattle.hsr_sightings.proofs.Counting.{slice_get_end, slice_get_left}
+use Rattle.hsr_sightings.proofs.Demanding.{after_by}
 
 -- ---- flags, one after the other
 
@@ -106,6 +110,28 @@ none_to such copies flags told (suc i) le none =
         ap (λ n. first_such such (past_of copies n)) next ∙ ap (first_such such) (past_more copies i c here) ∙ first_now such c (past_of copies i) rest
         ∙ ap (λ b. cond b (Some c) None) (none i (such (past_of copies i) c) (omega arith) (told.each i c here))
 
+-- what is told of the first, one copy after the other
+pub told_later : (such : List CaughtFields → CaughtFields → Bool) (tell : List CaughtFields → CaughtFields → What) (c : CaughtFields) (past : List CaughtFields) (what : What) → first_told such tell past ≡ Some what
+    → first_told such tell (c ∷ past) ≡ Some what
+told_later such tell c past what is = rw is refl
+
+pub told_now : (such : List CaughtFields → CaughtFields → Bool) (tell : List CaughtFields → CaughtFields → What) (c : CaughtFields) (past : List CaughtFields) → first_told such tell past ≡ None
+    → first_told such tell (c ∷ past) ≡ cond (such past c) (Some (tell past c)) None
+told_now such tell c past is = rw is refl
+
+-- nothing is told where there is none
+pub told_none : (such : List CaughtFields → CaughtFields → Bool) (tell : List CaughtFields → CaughtFields → What) (past : List CaughtFields) → first_such such past ≡ None → first_told such tell past ≡ None
+told_none such tell [] none = refl
+told_none such tell (c ∷ past) none = by_first (λ e. told_none such tell past e) (first_such such past) refl
+  where
+    by_such : (b : Bool) → cond b (Some c) None ≡ None → cond b (Some (tell past c)) None ≡ None
+    by_such true e = absurd cc
+    by_such false e = refl
+
+    by_first : (first_such such past ≡ None → first_told such tell past ≡ None) → (o : Option CaughtFields) → first_such such past ≡ o → first_told such tell (c ∷ past) ≡ None
+    by_first rest None is = told_now such tell c past (rest is) ∙ by_such (such past c) (sym (first_now such c past is) ∙ none)
+    by_first rest (Some x) is = let later : first_such such (c ∷ past) ≡ Some x = first_later such c past x is in absurd cc
+
 first_at : (such : List CaughtFields → CaughtFields → Bool) (copies : List CaughtFields) (flags : List Bool) (f : ℕ) (c : CaughtFields) → TellsEach such copies flags → IsFirstFlag flags (Some f)
     → slice_get copies f ≡ Some c → (n : ℕ) → f + 1 + n ≤ length copies → first_such such (past_of copies (f + 1 + n)) ≡ Some c
 first_at such copies flags f c told is here zero le =
@@ -123,6 +149,26 @@ first_at such copies flags f c told is here (suc n) le = by_copy (first_at such 
     by_copy rest (Some d) at_n =
         ap (λ m. first_such such (past_of copies m)) next ∙ ap (first_such such) (past_more copies (f + 1 + n) d at_n) ∙ first_later such d (past_of copies (f + 1 + n)) c rest
 
+told_first : (such : List CaughtFields → CaughtFields → Bool) (tell : List CaughtFields → CaughtFields → What) (copies : List CaughtFields) (flags : List Bool) (f : ℕ) (c : CaughtFields) → TellsEach such copies flags
+    → IsFirstFlag flags (Some f) → slice_get copies f ≡ Some c → (n : ℕ) → f + 1 + n ≤ length copies → first_told such tell (past_of copies (f + 1 + n)) ≡ Some (tell (past_of copies f) c)
+told_first such tell copies flags f c told is here zero le =
+    let none : f + 1 + 0 ≡ f + 1 = omega arith in
+    let own : such (past_of copies f) c ≡ true = same_Some _ _ (sym (told.each f c here) ∙ is.0) in
+    ap (λ m. first_told such tell (past_of copies m)) none ∙ ap (first_told such tell) (past_more copies f c here)
+    ∙ told_now such tell c (past_of copies f) (told_none such tell (past_of copies f) (none_to such copies flags told f (omega (arith, le)) is.1))
+    ∙ ap (λ b. cond b (Some (tell (past_of copies f) c)) None) own
+told_first such tell copies flags f c told is here (suc n) le = by_copy (told_first such tell copies flags f c told is here n (omega (arith, le))) (slice_get copies (f + 1 + n)) refl
+  where
+    next : f + 1 + suc n ≡ f + 1 + n + 1
+    next = omega arith
+
+    by_copy : first_told such tell (past_of copies (f + 1 + n)) ≡ Some (tell (past_of copies f) c) → (o : Option CaughtFields) → slice_get copies (f + 1 + n) ≡ o
+        → first_told such tell (past_of copies (f + 1 + suc n)) ≡ Some (tell (past_of copies f) c)
+    by_copy rest None missed = absurd (missing copies (f + 1 + n) (omega (arith, le)) missed)
+    by_copy rest (Some d) at_n =
+        ap (λ m. first_told such tell (past_of copies m)) next ∙ ap (first_told such tell) (past_more copies (f + 1 + n) d at_n)
+        ∙ told_later such tell d (past_of copies (f + 1 + n)) (tell (past_of copies f) c) rest
+
 -- ---- the whole
 
 one_set : (flags : List Bool) (f : ℕ) → slice_get flags f ≡ Some true → 0 < count_by (λ b. b) flags
@@ -138,29 +184,41 @@ no_flags [] none = refl
 no_flags (b ∷ flags) none =
     sum_by-cons (λ x. cond x 1 0) b flags ∙ ap (λ x. cond x 1 0 + count_by (λ y. y) flags) (none 0 b refl) ∙ ap (λ n. 0 + n) (no_flags flags (λ k x at_k. none (suc k) x at_k))
 
-pub none_told : (mark : Mark) (such : List CaughtFields → CaughtFields → Bool) (copies : List CaughtFields) (flags : List Bool) → TellsEach such copies flags → IsFirstFlag flags None
-    → IsOfCopies (word_of mark) such (reverse copies) None
-none_told mark such copies flags told is = sym (count_is such copies flags told) ∙ no_flags flags is
+pub none_told : (mark : Mark) (such : List CaughtFields → CaughtFields → Bool) (tell : List CaughtFields → CaughtFields → What) (copies : List CaughtFields) (flags : List Bool) → TellsEach such copies flags
+    → IsFirstFlag flags None → IsOfCopies (word_of mark) such tell (reverse copies) None
+none_told mark such tell copies flags told is = sym (count_is such copies flags told) ∙ no_flags flags is
 
 first_exists : (copies : List CaughtFields) (f : ℕ) → f < length copies → (c : CaughtFields) × (slice_get copies f ≡ Some c)
 first_exists [] f below = absurd (omega (arith, below))
 first_exists (c ∷ copies) zero below = (c, refl)
 first_exists (c ∷ copies) (suc f) below = first_exists copies f (omega (arith, below))
 
-pub some_told : (mark : Mark) (such : List CaughtFields → CaughtFields → Bool) (copies : List CaughtFields) (flags : List Bool) (f count : ℕ) (reason : Option Reason) → TellsEach such copies flags
-    → IsFirstFlag flags (Some f) → count ≡ count_by (λ b. b) flags → ((c : CaughtFields) → slice_get copies f ≡ Some c → IsReasonAt mark count c reason) → IsOfCopies (word_of mark) such (reverse copies) reason
-some_told mark such copies flags f count None told is count_eq at_c =
+pub some_told : (mark : Mark) (such : List CaughtFields → CaughtFields → Bool) (tell : List CaughtFields → CaughtFields → What) (copies : List CaughtFields) (flags : List Bool) (f count : ℕ) (reason : Option Reason)
+    → TellsEach such copies flags → IsFirstFlag flags (Some f) → count ≡ count_by (λ b. b) flags
+    → ((c : CaughtFields) → slice_get copies f ≡ Some c → IsToldWith (word_of mark) count (Some (spot_of c)) (tell (past_of copies f) c) reason) → IsOfCopies (word_of mark) such tell (reverse copies) reason
+some_told mark such tell copies flags f count None told is count_eq at_c =
     let below = slice_get_within flags f true is.0 in
     let own = first_exists copies f (omega (arith, below, told.long)) in
     absurd (at_c own.0 own.1)
-some_told mark such copies flags f count (Some reason) told is count_eq at_c =
+some_told mark such tell copies flags f count (Some reason) told is count_eq at_c =
     let below = slice_get_within flags f true is.0 in
     let own = first_exists copies f (omega (arith, below, told.long)) in
     let its = at_c own.0 own.1 in
     let place : f + 1 + (length copies - (f + 1)) ≡ length copies = omega (arith, below, told.long) in
-    let first : first_such such (reverse copies) ≡ Some own.0
-    = ap (first_such such) (sym (whole copies)) ∙ ap (λ n. first_such such (past_of copies n)) (sym place)
-    ∙ first_at such copies flags f own.0 told is own.1 (length copies - (f + 1)) (omega (arith, place)) in
+    let all : reverse copies ≡ past_of copies (f + 1 + (length copies - (f + 1))) = sym (whole copies) ∙ ap (past_of copies) (sym place) in
+    let first : first_such such (reverse copies) ≡ Some own.0 = ap (first_such such) all ∙ first_at such copies flags f own.0 told is own.1 (length copies - (f + 1)) (omega (arith, place)) in
+    let what : first_told such tell (reverse copies) ≡ Some (tell (past_of copies f) own.0)
+    = ap (first_told such tell) all ∙ told_first such tell copies flags f own.0 told is own.1 (length copies - (f + 1)) (omega (arith, place)) in
     let number : count ≡ count_copies such (reverse copies) = count_eq ∙ count_is such copies flags told in
     let some = one_set flags f is.0 in
-    (its.0, its.1 ∙ number, omega (arith, some, count_eq, number), its.2 ∙ ap spot_if (sym first))
+    (its.0, its.1 ∙ number, omega (arith, some, count_eq, number), its.2 ∙ ap spot_if (sym first), ap Some its.3 ∙ sym what)
+
+-- what is told by the first copy of the sighting
+pub told_by_sighting : (mark : Mark) (ring : Ring) (copies : List CaughtFields) (all : List Sighting) (of_copy : List ℕ) (f count : ℕ) (reason : Option Reason) → AreSightings ring copies all of_copy
+    → ((c : CaughtFields) (seen : Sighting) (number : ℕ) → slice_get copies f ≡ Some c → slice_get of_copy f ≡ Some number → slice_get all number ≡ Some seen
+    → IsToldWith (word_of mark) count (Some (spot_of c)) (copy_what_by mark (c.at - seen.at) c) reason)
+    → (c : CaughtFields) → slice_get copies f ≡ Some c → IsToldWith (word_of mark) count (Some (spot_of c)) (copy_what mark ring (past_of copies f) c) reason
+told_by_sighting mark ring copies all of_copy f count reason are told c here =
+    let own = are.own f c here in
+    subst (λ n. IsToldWith (word_of mark) count (Some (spot_of c)) (copy_what_by mark n c) reason) (sym (after_by ring copies all of_copy f own.0 c own.2.seen are here own.1 own.2.numbered))
+    (told c own.2.seen own.0 here own.1 own.2.numbered)

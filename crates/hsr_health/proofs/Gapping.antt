@@ -18,7 +18,7 @@ use Rattle.hsr_number_runs.specs.declared.run.Numbered.{Numbered}
 -- ---- gaps
 
 -- told before another one, by moments and copies
-before_true : (at copy bt bopy : ℕ) → (nat_lt at bt || (nat_eq at bt && nat_lt copy bopy)) ≡ true → (at < bt) ⊎ ((at ≡ bt) × (copy < bopy))
+pub before_true : (at copy bt bopy : ℕ) → (nat_lt at bt || (nat_eq at bt && nat_lt copy bopy)) ≡ true → (at < bt) ⊎ ((at ≡ bt) × (copy < bopy))
 before_true at copy bt bopy is = by_less (nat_lt at bt) refl
   where
     by_both : (b d : Bool) → nat_eq at bt ≡ b → nat_lt copy bopy ≡ d → (b && d) ≡ true → (at ≡ bt) × (copy < bopy)
@@ -30,7 +30,7 @@ before_true at copy bt bopy is = by_less (nat_lt at bt) refl
     by_less true less = inl (grind (arith, nat_tests))
     by_less false less = inr (by_both (nat_eq at bt) (nat_lt copy bopy) refl refl (sym (ap (λ b. b || (nat_eq at bt && nat_lt copy bopy)) less) ∙ is))
 
-before_yes : (at copy bt bopy : ℕ) → (at < bt) ⊎ ((at ≡ bt) × (copy < bopy)) → (nat_lt at bt || (nat_eq at bt && nat_lt copy bopy)) ≡ true
+pub before_yes : (at copy bt bopy : ℕ) → (at < bt) ⊎ ((at ≡ bt) × (copy < bopy)) → (nat_lt at bt || (nat_eq at bt && nat_lt copy bopy)) ≡ true
 before_yes at copy bt bopy (inl less) = let is : nat_lt at bt ≡ true = grind (arith, nat_tests) in ap (λ b. b || (nat_eq at bt && nat_lt copy bopy)) is
 before_yes at copy bt bopy (inr both) =
     let apart : nat_lt at bt ≡ false = grind (arith, nat_tests) in

@@ -2,7 +2,6 @@ pub mod Pasts
 pub mod Loading
 pub mod Keying
 pub mod Sorting
-pub mod Spreading
 pub mod Sourcing
 pub mod Ranking
 pub mod Sighted
@@ -17,9 +16,9 @@ pub mod Directing
 pub mod Flagging
 pub mod Finding
 pub mod Overtaking
-pub mod Telling
 pub mod Gapping
 pub mod Siding
 pub mod Capturing
 pub mod Measuring
+pub mod Living
 pub mod Composed

@@ -1,19 +1,22 @@
 -- The greatest of numbers, and counts that differ by supervision frames alone.
-use Rattle.std.proofs.Common.{◌≡◌, ℕ, ◌+◌, ◌<◌, ◌≤◌, max, Bool, zero, suc, List, [], ◌∷◌, ◌++◌, get_or, length, map, take, ◌⊎◌, inl, inr, refl, sym, ap, subst, ◌∙◌, arith, Option, Some, None}
+use Rattle.std.proofs.Common.{◌≡◌, ℕ, ◌+◌, ◌<◌, ◌≤◌, max, Bool, true, false, cond, zero, suc, List, [], ◌∷◌, ◌++◌, get_or, length, map, take, ◌⊎◌, inl, inr, refl, sym, ap, subst, ◌∙◌, arith, Option, Some, None}
 use Rattle.std.specs.List.{cons_option, range_with_len}
 use Rattle.std.specs.Prelude.{filter_map, option_to_list, slice_get}
 use Rattle.std.proofs.lemmas.List.{get_or-map, length-map, map_more, take_more}
 use Rattle.std.proofs.lemmas.List.FromFn.{fill_by_all, length-map-range_with_len}
 use Rattle.std.proofs.lemmas.List.Recursion.{max_push}
-use Rattle.std.proofs.lemmas.Option.{get_or_from_slice_get}
+use Rattle.std.proofs.lemmas.Option.{get_or_from_slice_get, same_Some, slice_get-get_or}
+use Rattle.std.proofs.lemmas.Bool.{cases_lt}
 use Rattle.hsr_frame_groups.specs.Frames.{CaughtFields, past_of}
 use Rattle.hsr_health.specs.Counted.{AreOfSources, OfSource, changed}
-use Rattle.hsr_health.specs.Hearing.{those_from}
+use Rattle.hsr_heard.specs.Hearing.{those_from}
 use Rattle.hsr_sightings.specs.Copies.{crowd}
 use Rattle.hsr_sightings.specs.Read.{AreCrowds, most_at}
 use Rattle.hsr_sightings.specs.Ring.{Ring}
+use Rattle.hsr_health.specs.Told.{is_greater}
 use Rattle.hsr_health.specs.Whole.{AreAlike, greatest, is_alike, one_life, one_unreadable}
 use Rattle.hsr_health.specs.declared.counts.Counts.{Counts}
+use Rattle.hsr_health.proofs.Gapping.{before_true, before_yes}
 use Rattle.hsr_health.proofs.Sourcing.{changed_at}
 use Rattle.hsr_sightings.specs.declared.late.Crowd.{Crowd}
 
@@ -28,6 +31,68 @@ pub crowd_more : (crowds : List Crowd) (i most new : ℕ) (d : Crowd) → i < le
 crowd_more crowds i most new d below most_is new_is =
     new_is ∙ ap (λ m. max m (get_or crowds i d).frames) most_is
     ∙ sym (ap greatest (map_more (λ (crowd : Crowd). crowd.frames) crowds i d below) ∙ greatest_push (map (λ (crowd : Crowd). crowd.frames) (take i crowds)) (get_or crowds i d).frames)
+
+-- ---- the greatest crowd
+
+not_itself : (a : Crowd) → is_greater a a ≡ false
+not_itself a = by_case (is_greater a a) refl
+  where
+    never : (a.frames < a.frames) ⊎ ((a.frames ≡ a.frames) × (a.first < a.first)) → is_greater a a ≡ false
+    never (inl less) = absurd (omega (arith, less))
+    never (inr both) = absurd (omega (arith, both.1))
+
+    by_case : (b : Bool) → is_greater a a ≡ b → is_greater a a ≡ false
+    by_case false is = is
+    by_case true is = never (before_true a.frames a.first a.frames a.first is)
+
+-- what isn't greater than one isn't greater than what is greater than that
+not_greater : (x a most : Crowd) → is_greater a most ≡ true → is_greater x most ≡ false → is_greater x a ≡ false
+not_greater x a most greater still = by_case (is_greater x a) refl
+  where
+    join : (a.frames < x.frames) ⊎ ((a.frames ≡ x.frames) × (x.first < a.first)) → (most.frames < a.frames) ⊎ ((most.frames ≡ a.frames) × (a.first < most.first))
+        → (most.frames < x.frames) ⊎ ((most.frames ≡ x.frames) × (x.first < most.first))
+    join (inl p) (inl q) = inl (omega (arith, p, q))
+    join (inl p) (inr q) = inl (omega (arith, p, q.0))
+    join (inr p) (inl q) = inl (omega (arith, p.0, q))
+    join (inr p) (inr q) = inr (omega (arith, p.0, q.0), omega (arith, p.1, q.1))
+
+    by_case : (b : Bool) → is_greater x a ≡ b → is_greater x a ≡ false
+    by_case false is = is
+    by_case true is =
+        let yes : is_greater x most ≡ true
+        = before_yes most.frames x.first x.frames most.first (join (before_true a.frames x.first x.frames a.first is) (before_true most.frames a.first a.frames most.first greater)) in
+        absurd cc
+
+pub greatest_there : (crowds : List Crowd) (i : ℕ) (most new d : Crowd) → i < length crowds → new ≡ cond (is_greater (get_or crowds i d) most) (get_or crowds i d) most
+    → (0 < most.frames → (k : ℕ) × (slice_get crowds k ≡ Some most)) → 0 < new.frames → (k : ℕ) × (slice_get crowds k ≡ Some new)
+greatest_there crowds i most new d below new_is there some = by_case (is_greater (get_or crowds i d) most) refl
+  where
+    by_case : (b : Bool) → is_greater (get_or crowds i d) most ≡ b → (k : ℕ) × (slice_get crowds k ≡ Some new)
+    by_case true is = (i, slice_get-get_or crowds i d below ∙ ap Some (sym (new_is ∙ ap (λ b. cond b (get_or crowds i d) most) is)))
+    by_case false is =
+        let same : new ≡ most = new_is ∙ ap (λ b. cond b (get_or crowds i d) most) is in
+        let before = there (omega (arith, some, ap (λ (x : Crowd). x.frames) same)) in
+        (before.0, before.1 ∙ ap Some (sym same))
+
+pub greatest_most : (crowds : List Crowd) (i : ℕ) (most new d : Crowd) → i < length crowds → new ≡ cond (is_greater (get_or crowds i d) most) (get_or crowds i d) most
+    → ((k : ℕ) (crowd : Crowd) → k < i → slice_get crowds k ≡ Some crowd → is_greater crowd most ≡ false)
+    → (k : ℕ) (crowd : Crowd) → k < i + 1 → slice_get crowds k ≡ Some crowd → is_greater crowd new ≡ false
+greatest_most crowds i most new d below new_is least k crowd inside at_k = by_case (is_greater own most) refl (cases_lt k i)
+  where
+    own : Crowd
+    own = get_or crowds i d
+
+    last : i ≤ k → crowd ≡ own
+    last past = let place : k ≡ i = omega (arith, past, inside) in same_Some crowd own (sym at_k ∙ ap (slice_get crowds) place ∙ slice_get-get_or crowds i d below)
+
+    new_by : (b : Bool) → is_greater own most ≡ b → new ≡ cond b own most
+    new_by b is = new_is ∙ ap (λ x. cond x own most) is
+
+    by_case : (b : Bool) → is_greater own most ≡ b → (k < i) ⊎ (i ≤ k) → is_greater crowd new ≡ false
+    by_case true is (inl before) = ap (is_greater crowd) (new_by true is) ∙ not_greater crowd own most is (least k crowd before at_k)
+    by_case true is (inr past) = ap (is_greater crowd) (new_by true is) ∙ ap (λ x. is_greater x own) (last past) ∙ not_itself own
+    by_case false is (inl before) = ap (is_greater crowd) (new_by false is) ∙ least k crowd before at_k
+    by_case false is (inr past) = ap (is_greater crowd) (new_by false is) ∙ ap (λ x. is_greater x most) (last past) ∙ is
 
 -- ---- counts
 

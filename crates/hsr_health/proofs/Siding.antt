@@ -1,7 +1,7 @@
 -- Points that saw group frames on one way alone, and group frames that came one way alone.
 use Rattle.std.proofs.Common.{◌≡◌, ℕ, zero, suc, ◌<◌, ◌&&◌, ◌||◌, not, Bool, true, false, cond, List, [], ◌∷◌, get_or, length, map, reverse, refl, sym, ap, subst, ◌∙◌, arith, Option, Some, None}
 use Rattle.std.specs.List.{list_any, range_with_len}
-use Rattle.std.specs.Prelude.{count_by, find, option_map, slice_get}
+use Rattle.std.specs.Prelude.{count_by, find, is_some, option_map, slice_get}
 use Rattle.std.proofs.lemmas.Bool.{eqb-true}
 use Rattle.std.proofs.lemmas.List.FromFn.{get_or-map-range_with_len, length-map-range_with_len}
 use Rattle.std.proofs.lemmas.Option.{same_Some, slice_get-get_or, slice_get_within}
@@ -9,7 +9,7 @@ use Rattle.hsr_frame.specs.Address.{is_group}
 use Rattle.hsr_frame_groups.specs.Frames.{CaughtFields}
 use Rattle.hsr_sightings.specs.Read.{AreSightings}
 use Rattle.hsr_sightings.specs.Ring.{Ring, is_at, point_of}
-use Rattle.hsr_sightings.specs.Seen.{came_both, fate_of, is_edge}
+use Rattle.hsr_sightings.specs.Seen.{came_both, fate_of, is_edge, way_of_seen}
 use Rattle.hsr_sightings.specs.Sightings.{Sighting as Seen, came_both_ways, is_first_at_edge, is_more, is_once, is_to_group, sees_both_ways, sightings}
 use Rattle.hsr_sightings.specs.declared.sighting.Fate.{Fate}
 use Rattle.hsr_sightings.specs.declared.sighting.Fate.TheVariants as the_fate
@@ -19,15 +19,19 @@ use Rattle.hsr_health.specs.Counted.{is_fate}
 use Rattle.hsr_health.specs.Told.{IsFirstAt, IsFirstFlag, IsOfFrames, IsOfPoints, IsToldAt, IsToldWith, first_frame, is_at_one_sided, is_kept_one_way, is_one_sided, is_one_way_among, kept_one_way_by, one_sided_among, saw_group, spot_if, spot_of}
 use Rattle.hsr_health.specs.declared.reason.Reason.{Reason}
 use Rattle.hsr_health.specs.declared.reason.Spot.{Spot}
+use Rattle.hsr_health.specs.What.{alone_what, kept_alone_what, way_what}
+use Rattle.hsr_health.specs.declared.reason.What.{What}
+use Rattle.hsr_health.specs.declared.reason.What.TheVariants as the_what
 use Rattle.hsr_health.specs.declared.reason.Word.{Word}
 use Rattle.hsr_health.specs.declared.reason.Word.TheVariants as the_word
 use Rattle.hsr_health.proofs.Finding.{count_map, flag_counts, in_range, less_than, no_flag_counts}
-use Rattle.hsr_health.proofs.Sighted.{AreSeenAs, IsSeenAs, all_seen, came_same, count_all, edge_same}
+use Rattle.hsr_health.proofs.Sighted.{AreSeenAs, IsSeenAs, all_seen, came_same, count_all, edge_same, is_first}
 
 -- a reason that is told, by its count and its place
-told_at : (word : Word) (count n : ℕ) (spot : Spot) (at : Option Spot) (reason : Option Reason) → count ≡ n → 0 < n → Some spot ≡ at → IsToldWith word count (Some spot) reason → IsToldAt word n at reason
-told_at word count n spot at None is some place with_it = absurd with_it
-told_at word count n spot at (Some r) is some place with_it = (with_it.0, with_it.1 ∙ is, some, with_it.2 ∙ place)
+told_at : (word : Word) (count n : ℕ) (spot : Spot) (at : Option Spot) (what : What) (told : Option What) (reason : Option Reason) → count ≡ n → 0 < n → Some spot ≡ at → Some what ≡ told
+    → IsToldWith word count (Some spot) what reason → IsToldAt word n at told reason
+told_at word count n spot at what told None is some place tells with_it = absurd with_it
+told_at word count n spot at what told (Some r) is some place tells with_it = (with_it.0, with_it.1 ∙ is, some, with_it.2 ∙ place, ap Some with_it.3 ∙ tells)
 
 exists_at : {X : Type 0} (xs : List X) (k : ℕ) → k < length xs → (x : X) × (slice_get xs k ≡ Some x)
 exists_at [] k below = absurd (omega (arith, below))
@@ -96,10 +100,10 @@ flagged (b ∷ l) (suc k) on = flagged l k on
 
 pub some_sided : (ring : Ring) (copies : List CaughtFields) (many : ℕ) (flags : List Bool) (first count : ℕ) (reason : Option Reason) → flags ≡ map (is_one_sided ring copies) (range_with_len 0 many)
     → IsFirstSided ring copies flags (Some first) → count ≡ count_by (λ b. b) flags
-    → ((c : CaughtFields) → slice_get copies first ≡ Some c → IsToldWith the_word.OneSided count (Some (spot_of c)) reason) → IsOfPoints ring copies many reason
+    → ((c : CaughtFields) → slice_get copies first ≡ Some c → IsToldWith the_word.OneSided count (Some (spot_of c)) (way_what ring c) reason) → IsOfPoints ring copies many reason
 some_sided ring copies many flags first count reason are is count_is told =
-    told_at the_word.OneSided count (one_sided_among ring copies many) (spot_of own.0) (spot_if (find (is_at_one_sided ring copies many) copies)) reason
-    (count_is ∙ all) (omega (arith, some, all)) (ap spot_if (sym found)) (told own.0 own.1)
+    told_at the_word.OneSided count (one_sided_among ring copies many) (spot_of own.0) (spot_if (find (is_at_one_sided ring copies many) copies)) (way_what ring own.0)
+    (option_map (way_what ring) (find (is_at_one_sided ring copies many) copies)) reason (count_is ∙ all) (omega (arith, some, all)) (ap spot_if (sym found)) (ap (option_map (way_what ring)) (sym found)) (told own.0 own.1)
   where
     own : (c : CaughtFields) × (slice_get copies first ≡ Some c)
     own = exists_at copies first is.0
@@ -183,14 +187,22 @@ found_first ring copies test def same (s ∷ all) (t ∷ seen) are (suc i) is =
       same = rest.same;
     }
 
+-- the same is told of it
+alone_same : (ring : Ring) (copies : List CaughtFields) (s : Sighting) (t : Seen) → IsSeenAs ring copies s t → kept_alone_what s t.first ≡ alone_what ring t
+alone_same ring copies s t is =
+    ap (λ n. the_what.Alone n t.first.copy.src t.first.copy.seq (way_of_seen s)) is.point
+    ∙ ap (λ (b : Bool). the_what.Alone t.point t.first.copy.src t.first.copy.seq (cond b 0 1)) (ap is_some is.by_0 ∙ is_first ring 0 t.copies)
+
 pub some_one_way : (ring : Ring) (copies : List CaughtFields) (both : List Bool) (many : ℕ) (all : List Sighting) (numbers : List ℕ) (flags : List Bool) (first count : ℕ) (reason : Option Reason)
     → both ≡ map (sees_both_ways ring copies) (range_with_len 0 many) → AreSightings ring copies all numbers → flags ≡ map (is_kept_one_way ring copies both) all → IsFirstFlag flags (Some first)
     → count ≡ count_by (λ b. b) flags
-    → ((seen : Sighting) (c : CaughtFields) → slice_get all first ≡ Some seen → slice_get copies seen.first ≡ Some c → IsToldWith the_word.OneWay count (Some (spot_of c)) reason)
-    → IsOfFrames the_word.OneWay (is_one_way_among ring copies many) (sightings ring (reverse copies)) reason
+    → ((seen : Sighting) (c : CaughtFields) → slice_get all first ≡ Some seen → slice_get copies seen.first ≡ Some c → IsToldWith the_word.OneWay count (Some (spot_of c)) (kept_alone_what seen c) reason)
+    → IsOfFrames the_word.OneWay (is_one_way_among ring copies many) (alone_what ring) (sightings ring (reverse copies)) reason
 some_one_way ring copies both many all numbers flags first count reason both_are are flags_are is count_is told =
     told_at the_word.OneWay count (count_by (is_one_way_among ring copies many) (sightings ring (reverse copies))) (spot_of found.such.first)
-    (spot_if (first_frame (is_one_way_among ring copies many) (sightings ring (reverse copies)))) reason (count_is ∙ every) (omega (arith, some, every)) (ap spot_if (sym place))
+    (spot_if (first_frame (is_one_way_among ring copies many) (sightings ring (reverse copies)))) (kept_alone_what found.own found.such.first)
+    (option_map (alone_what ring) (find (is_one_way_among ring copies many) (reverse (sightings ring (reverse copies))))) reason (count_is ∙ every) (omega (arith, some, every)) (ap spot_if (sym place))
+    (ap Some (alone_same ring copies found.own found.such found.same) ∙ ap (option_map (alone_what ring)) (sym found.found))
     (told found.own found.such.first found.here found.same.first)
   where
     found : IsFound ring copies (is_one_way_among ring copies many) all (reverse (sightings ring (reverse copies))) first

@@ -14,9 +14,9 @@ use Rattle.hsr_sightings.specs.Seen.{skew_of}
 use Rattle.hsr_sightings.specs.Sightings.{Sighting as Seen, apart, first_seen, sightings, skew}
 use Rattle.hsr_sightings.specs.declared.sighting.Sighting.{Sighting}
 use Rattle.hsr_health.specs.Counted.{AreSources, is_of, skews_of, told_by}
-use Rattle.hsr_health.specs.Spreads.{IsSpread, IsSpreadOf, amounts_of}
-use Rattle.hsr_health.specs.declared.spread.Spread.{Spread}
-use Rattle.hsr_health.specs.declared.spread.Told.{Told}
+use Rattle.hsr_spread.specs.Spreads.{IsSpread, IsSpreadOf, amounts_of}
+use Rattle.hsr_spread.specs.declared.spread.Spread.{Spread}
+use Rattle.hsr_spread.specs.declared.spread.Told.{Told}
 use Rattle.hsr_health.proofs.Sighted.{AreSeenAs, IsSeenAs, all_seen}
 use Rattle.hsr_health.proofs.Sourcing.{is_other, is_own}
 

@@ -3,6 +3,7 @@
 --     OfDirection     copies again, the most copies of a frame, overtaken and late ones, frames that this way hadn't
 --     OfPoint         frames, whether it sees both ways, and how many frames a table has to hold
 use Rattle.std.specs.Prelude.{ℕ, zero, suc, ◌≡◌, ◌+◌, ◌-◌, ◌/◌, ◌%◌, ◌<◌, ◌^◌, ◌==◌, ◌&&◌, max, min, nat_le, not, Bool, true, false, if◌then◌else◌, List, [], ◌∷◌, count_by, filter, filter_map, length, reverse, slice_get, slice_index, Option, Some, None, is_some, option_map, unwrap_or}
+use Rattle.hsr_address.specs.Numbers.{number_of}
 use Rattle.hsr_frame.specs.Address.{is_group, is_same_address}
 use Rattle.hsr_frame_copies.specs.Alike.{has_right_size}
 use Rattle.hsr_frame_groups.specs.Frames.{CaughtFields, past_of}
@@ -22,10 +23,10 @@ use Rattle.hsr_sightings.specs.declared.overtaken.Overtaken.{Overtaken}
 use Rattle.hsr_health.specs.declared.directions.Beside.{Beside}
 use Rattle.hsr_health.specs.declared.directions.DirectionNumbers.{DirectionNumbers}
 use Rattle.hsr_health.specs.declared.directions.PointNumbers.{PointNumbers}
-use Rattle.hsr_health.specs.Sources.{IsSourceOf, number_of}
-use Rattle.hsr_health.specs.Spreads.{IsSpread}
-use Rattle.hsr_health.specs.declared.spread.Spread.{Spread}
-use Rattle.hsr_health.specs.declared.spread.Told.{Told}
+use Rattle.hsr_health.specs.Sources.{IsSourceOf}
+use Rattle.hsr_spread.specs.Spreads.{IsSpread}
+use Rattle.hsr_spread.specs.declared.spread.Spread.{Spread}
+use Rattle.hsr_spread.specs.declared.spread.Told.{Told}
 
 -- ---- a source
 

@@ -1,13 +1,12 @@
 pub mod Numbering
 pub mod Broken
 pub mod Loads
-pub mod Spreads
 pub mod ByKey
 pub mod Kinds
 pub mod Sources
 pub mod Counted
+pub mod What
 pub mod Told
-pub mod Hearing
 pub mod Order
 pub mod Reasons
 pub mod Whole

@@ -10,9 +10,9 @@ use Rattle.std.specs.declared.cmp.Ordering.{Ordering}
 use Rattle.hsr_frame.specs.Address.{is_same_address}
 use Rattle.hsr_frame_groups.specs.Frames.{CaughtFields}
 use Rattle.hsr_health.specs.Counted.{changed, one_more}
-use Rattle.hsr_health.specs.declared.abouts.About.{About}
+use Rattle.hsr_heard.specs.declared.abouts.About.{About}
 use Rattle.hsr_health.specs.declared.counts.Marks.{Marks}
-use Rattle.hsr_health.specs.declared.heard.Heard.{Heard}
+use Rattle.hsr_heard.specs.declared.heard.Heard.{Heard}
 use Rattle.hsr_health.specs.declared.ledger.GroupNumbers.{GroupNumbers}
 use Rattle.hsr_health.specs.declared.ledger.Ledger.{Ledger}
 use Rattle.hsr_number_runs.specs.Elsewhere.{elsewhere_in}

@@ -3,7 +3,7 @@
 use Rattle.std.specs.Prelude.{ℕ, ◌==◌, ◌&&◌, not, nat_le, Bool, if◌then◌else◌, List, filter}
 use Rattle.std.specs.List.{flat_map, list_any, range_with_len, sum_by}
 use Rattle.hsr_health.specs.Broken.{is_thin_by}
-use Rattle.hsr_health.specs.declared.abouts.Silence.{Silence}
+use Rattle.hsr_heard.specs.declared.abouts.Silence.{Silence}
 use Rattle.hsr_health.specs.declared.broken.Span.{Span}
 use Rattle.hsr_health.specs.declared.counts.Counts.{Counts}
 use Rattle.hsr_health.specs.declared.order.Facts.{Facts}

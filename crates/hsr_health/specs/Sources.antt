@@ -1,5 +1,6 @@
 -- Who sent frames: addresses as numbers.
 use Rattle.std.specs.Prelude.{ℕ, ◌≡◌, ◌+◌, ◌*◌, ◌/◌, ◌%◌, ◌<◌, ◌≤◌, if◌then◌else◌, List, [], ◌∷◌, length, slice_get, slice_index, Contains, Option, Some, None}
+use Rattle.hsr_address.specs.Numbers.{address_of, number_of}
 use Rattle.hsr_frame.specs.Address.{IsAddress, is_same_address}
 use Rattle.hsr_frame_groups.specs.Frames.{CaughtFields}
 use Rattle.hsr_health.specs.declared.by_key.KeyCount.{KeyCount}
@@ -10,17 +11,6 @@ pub record IsSourceOf (copies : List CaughtFields) (mac : List ℕ) : Type 0 whe
   pub copy : CaughtFields
   pub there : slice_get copies place ≡ Some copy
   pub is : copy.copy.src ≡ mac
-
--- six octets as a number, the first one the greatest
-abbrev pub number_of : List ℕ → ℕ
-number_of mac =
-    ((((slice_index mac 0 * 256 + slice_index mac 1) * 256 + slice_index mac 2) * 256 + slice_index mac 3) * 256 + slice_index mac 4) * 256 + slice_index mac 5
-
-abbrev pub octet_of : ℕ → ℕ → ℕ
-octet_of number unit = number / unit % 256
-
-abbrev pub address_of : ℕ → List ℕ
-address_of n = octet_of n 1099511627776 ∷ octet_of n 4294967296 ∷ octet_of n 16777216 ∷ octet_of n 65536 ∷ octet_of n 256 ∷ octet_of n 1 ∷ []
 
 -- over 1024 sources, each once
 pub record HasManySources (copies : List CaughtFields) : Type 0 where

@@ -1,4 +1,4 @@
--- Reasons for doubt: how many each counts, and where first.
+-- Reasons for doubt: how many each counts, where first, and what is told of that.
 --     IsOfCopies      a reason that counts copies which are such, told at the first of them
 --     IsOfFrames      the same of frames at points
 --     IsOfStrays      the same of packets that are no copies
@@ -14,21 +14,25 @@ use Rattle.hsr_frame_copies.specs.declared.contents.NoCopy.{NoCopy}
 use Rattle.hsr_frame_copies.specs.declared.contents.NoCopy.TheVariants.{Unread, Malformed, Untagged}
 use Rattle.hsr_frame_groups.specs.Frames.{CaughtFields}
 use Rattle.hsr_health.specs.Counted.{has_wrong_lane, has_wrong_size, is_fate}
-use Rattle.hsr_health.specs.Hearing.{silent_time}
+use Rattle.hsr_heard.specs.Subjects.{silent_time}
 use Rattle.hsr_health.specs.Kinds.{is_link_local}
-use Rattle.hsr_health.specs.declared.abouts.About.{About}
-use Rattle.hsr_health.specs.declared.abouts.Silence.{Silence}
+use Rattle.hsr_health.specs.What.{restart_what, silent_what, stray_what, way_what}
+use Rattle.hsr_heard.specs.declared.abouts.About.{About}
+use Rattle.hsr_heard.specs.declared.abouts.Silence.{Silence}
 use Rattle.hsr_health.specs.declared.copy_reasons.Mark.{Mark}
 use Rattle.hsr_health.specs.declared.copy_reasons.Mark.TheVariants as the_mark
 use Rattle.hsr_health.specs.declared.counts.Counts.{Counts}
 use Rattle.hsr_health.specs.declared.counts.Marks.{Marks}
 use Rattle.hsr_health.specs.declared.reason.Reason.{Reason}
 use Rattle.hsr_health.specs.declared.reason.Spot.{Spot}
+use Rattle.hsr_health.specs.declared.reason.What.{What}
+use Rattle.hsr_health.specs.declared.reason.What.TheVariants as the_what
 use Rattle.hsr_health.specs.declared.reason.Word.{Word}
 use Rattle.hsr_health.specs.declared.reason.Word.TheVariants as the_word
 use Rattle.hsr_number_runs.specs.declared.gaps.Gap.{Gap}
 use Rattle.hsr_number_runs.specs.declared.run.Restart.{Restart}
 use Rattle.hsr_sightings.specs.Copies.{count_copies, first_such, is_again, is_clash, is_late, is_storm}
+use Rattle.hsr_sightings.specs.Read.{AreCrowds}
 use Rattle.hsr_sightings.specs.Ring.{Ring, is_at, point_of}
 use Rattle.hsr_sightings.specs.Seen.{fate_of}
 use Rattle.hsr_sightings.specs.Sightings.{Sighting, is_once, is_to_group, sees_both_ways}
@@ -42,15 +46,15 @@ spot_of c = record { packet = c.packet; at = c.at }
 
 -- ---- copies; a past has the latest first
 
--- a reason of a word counts so many, and is told at a place; there is none where it counts none
-abbrev pub IsToldAt : Word → ℕ → Option Spot → Option Reason → Type 0
-IsToldAt word count spot None = count ≡ 0
-IsToldAt word count spot (Some reason) = (reason.word ≡ word) × (reason.count ≡ count) × (0 < count) × (reason.spot ≡ spot)
+-- a reason of a word counts so many, is told at a place, and tells this of the first; there is none where it counts none
+abbrev pub IsToldAt : Word → ℕ → Option Spot → Option What → Option Reason → Type 0
+IsToldAt word count spot what None = count ≡ 0
+IsToldAt word count spot what (Some reason) = (reason.word ≡ word) × (reason.count ≡ count) × (0 < count) × (reason.spot ≡ spot) × (Some reason.what ≡ what)
 
 -- the same of a reason that there is
-abbrev pub IsToldWith : Word → ℕ → Option Spot → Option Reason → Type 0
-IsToldWith word count spot None = ⊥
-IsToldWith word count spot (Some reason) = (reason.word ≡ word) × (reason.count ≡ count) × (reason.spot ≡ spot)
+abbrev pub IsToldWith : Word → ℕ → Option Spot → What → Option Reason → Type 0
+IsToldWith word count spot what None = ⊥
+IsToldWith word count spot what (Some reason) = (reason.word ≡ word) × (reason.count ≡ count) × (reason.spot ≡ spot) × (reason.what ≡ what)
 
 -- one, if it is so
 abbrev pub one_if : Bool → ℕ
@@ -58,15 +62,24 @@ one_if true = 1
 one_if false = 0
 
 -- a reason that counts one, and is told at no packet
-abbrev pub IsAlone : Word → Bool → Option Reason → Type 0
-IsAlone word holds reason = IsToldAt word (one_if holds) None reason
+abbrev pub IsAlone : Word → What → Bool → Option Reason → Type 0
+IsAlone word what holds reason = IsToldAt word (one_if holds) None (Some what) reason
 
 abbrev pub spot_if : Option CaughtFields → Option Spot
 spot_if None = None
 spot_if (Some c) = Some (spot_of c)
 
-abbrev pub IsOfCopies : Word → (List CaughtFields → CaughtFields → Bool) → List CaughtFields → Option Reason → Type 0
-IsOfCopies word is_such past reason = IsToldAt word (count_copies is_such past) (spot_if (first_such is_such past)) reason
+-- what is told of the first copy in time that is such, by its past
+abbrev pub first_told : (List CaughtFields → CaughtFields → Bool) → (List CaughtFields → CaughtFields → What) → List CaughtFields → Option What
+first_told is_such tell [] = None
+first_told is_such tell (c ∷ past) = first_or (first_told is_such tell past) (if is_such past c then Some (tell past c) else None)
+  where
+    first_or : Option What → Option What → Option What
+    first_or None other = other
+    first_or (Some found) other = Some found
+
+abbrev pub IsOfCopies : Word → (List CaughtFields → CaughtFields → Bool) → (List CaughtFields → CaughtFields → What) → List CaughtFields → Option Reason → Type 0
+IsOfCopies word is_such tell past reason = IsToldAt word (count_copies is_such past) (spot_if (first_such is_such past)) (first_told is_such tell past) reason
 
 -- the second and the third copy of a frame on a direction
 abbrev pub is_again_alone : List CaughtFields → CaughtFields → Bool
@@ -98,11 +111,6 @@ is_marked the_mark.Late carried marks = marks.is_late
 is_marked the_mark.Size carried marks = marks.is_wrong_size
 is_marked the_mark.Lane carried marks = marks.is_wrong_lane
 
--- a reason that is told of a copy
-abbrev pub IsReasonAt : Mark → ℕ → CaughtFields → Option Reason → Type 0
-IsReasonAt mark count c None = ⊥
-IsReasonAt mark count c (Some reason) = (reason.word ≡ word_of mark) × (reason.count ≡ count) × (reason.spot ≡ Some (spot_of c))
-
 -- the first of flags
 abbrev pub IsFirstFlag : List Bool → Option ℕ → Type 0
 IsFirstFlag flags None = (k : ℕ) (b : Bool) → slice_get flags k ≡ Some b → b ≡ false
@@ -118,8 +126,8 @@ IsFirstAt {X} is_such xs (Some i) = (i < length xs) × ((x : X) → slice_get xs
 abbrev pub first_frame : (Sighting → Bool) → List Sighting → Option CaughtFields
 first_frame is_such seen = option_map (λ s. s.first) (find is_such (reverse seen))
 
-abbrev pub IsOfFrames : Word → (Sighting → Bool) → List Sighting → Option Reason → Type 0
-IsOfFrames word is_such seen reason = IsToldAt word (count_by is_such seen) (spot_if (first_frame is_such seen)) reason
+abbrev pub IsOfFrames : Word → (Sighting → Bool) → (Sighting → What) → List Sighting → Option Reason → Type 0
+IsOfFrames word is_such tell seen reason = IsToldAt word (count_by is_such seen) (spot_if (first_frame is_such seen)) (option_map tell (find is_such (reverse seen))) reason
 
 -- a group frame that came one way alone, at one of so many points that sees both
 abbrev pub is_one_way_among : Ring → List CaughtFields → ℕ → Sighting → Bool
@@ -152,7 +160,8 @@ abbrev pub is_at_one_sided : Ring → List CaughtFields → ℕ → CaughtFields
 is_at_one_sided ring copies many c = (nat_lt (point_of ring c) many && is_one_sided ring copies (point_of ring c)) && is_group c.copy.dst
 
 abbrev pub IsOfPoints : Ring → List CaughtFields → ℕ → Option Reason → Type 0
-IsOfPoints ring copies many reason = IsToldAt the_word.OneSided (one_sided_among ring copies many) (spot_if (find (is_at_one_sided ring copies many) copies)) reason
+IsOfPoints ring copies many reason =
+    IsToldAt the_word.OneSided (one_sided_among ring copies many) (spot_if (find (is_at_one_sided ring copies many) copies)) (option_map (way_what ring) (find (is_at_one_sided ring copies many) copies)) reason
 
 -- ---- packets that are no copies
 
@@ -178,7 +187,7 @@ stray_spot None = None
 stray_spot (Some stray) = Some (record { packet = stray.packet; at = stray.at })
 
 abbrev pub IsOfStrays : Word → (Stray → Bool) → List Stray → Option Reason → Type 0
-IsOfStrays word is_such strays reason = IsToldAt word (count_by is_such strays) (stray_spot (find is_such strays)) reason
+IsOfStrays word is_such strays reason = IsToldAt word (count_by is_such strays) (stray_spot (find is_such strays)) (option_map stray_what (find is_such strays)) reason
 
 -- ---- the whole
 
@@ -202,8 +211,12 @@ lost_at losses asked i = if is_in asked i then lost_or (slice_get losses i) else
 abbrev pub lost_among : List Losses → List Bool → ℕ
 lost_among losses asked = min (sum_by (lost_at losses asked) (range_with_len 0 (length losses))) (2 ^ 64 - 1)
 
+-- the first interface that lost some
+abbrev pub first_lost : List Losses → List Bool → Option ℕ
+first_lost losses asked = find (λ i. nat_lt 0 (lost_at losses asked i)) (range_with_len 0 (length losses))
+
 abbrev pub IsOfLosses : List Losses → List Bool → Option Reason → Type 0
-IsOfLosses losses asked reason = IsToldAt the_word.Dropped (lost_among losses asked) None reason
+IsOfLosses losses asked reason = IsToldAt the_word.Dropped (lost_among losses asked) None (option_map (λ i. the_what.Packets i (lost_at losses asked i)) (first_lost losses asked)) reason
 
 -- ---- sources
 
@@ -216,7 +229,7 @@ abbrev pub is_absent : List (List ℕ) → List About → List ℕ → Bool
 is_absent macs abouts mac = not (is_among macs mac) && not (is_told abouts mac)
 
 abbrev pub IsOfAbsent : List (List ℕ) → Option Reason → Type 0
-IsOfAbsent absent reason = IsToldAt the_word.Absent (length absent) None reason
+IsOfAbsent absent reason = IsToldAt the_word.Absent (length absent) None (option_map (λ mac. the_what.Source mac) (slice_get absent 0)) reason
 
 -- the copy at an index
 abbrev pub spot_at : List CaughtFields → ℕ → Option Spot
@@ -250,32 +263,50 @@ pub record IsFirstGap (gaps : List Gap) (first : Gap) : Type 0 where
   pub there : (k : ℕ) × (slice_get gaps k ≡ Some first)
   pub least : (k : ℕ) (gap : Gap) → slice_get gaps k ≡ Some gap → is_before gap first ≡ false
 
--- Gaps of some groups: how many numbers are missing (a number of 64 bits at most), and the first gap in time.
-pub record IsReasonOfGaps (word : Word) (copies : List CaughtFields) (gaps : List Gap) (reason : Reason) : Type 0 where
+-- Gaps of some groups: how many numbers are missing (a number of 64 bits at most), the first gap in time, and what is told of it.
+pub record IsReasonOfGaps (word : Word) (tell : Gap → What) (copies : List CaughtFields) (gaps : List Gap) (reason : Reason) : Type 0 where
   pub word_is : reason.word ≡ word
   pub count : reason.count ≡ min (missing_in gaps) (2 ^ 64 - 1)
   pub first : Gap
   pub is_first : IsFirstGap gaps first
   pub spot : reason.spot ≡ spot_at copies first.copy
+  pub what : reason.what ≡ tell first
 
-abbrev pub IsOfSome : Word → List CaughtFields → List Gap → Option Reason → Type 0
-IsOfSome word copies gaps None = length gaps ≡ 0
-IsOfSome word copies gaps (Some reason) = IsReasonOfGaps word copies gaps reason
+abbrev pub IsOfSome : Word → (Gap → What) → List CaughtFields → List Gap → Option Reason → Type 0
+IsOfSome word tell copies gaps None = length gaps ≡ 0
+IsOfSome word tell copies gaps (Some reason) = IsReasonOfGaps word tell copies gaps reason
 
-abbrev pub IsOfGaps : Word → List CaughtFields → (ℕ → Bool) → List Gap → Option Reason → Type 0
-IsOfGaps word copies counts gaps reason = IsOfSome word copies (filter (λ g. counts g.group) gaps) reason
+abbrev pub IsOfGaps : Word → (Gap → What) → List CaughtFields → (ℕ → Bool) → List Gap → Option Reason → Type 0
+IsOfGaps word tell copies counts gaps reason = IsOfSome word tell copies (filter (λ g. counts g.group) gaps) reason
 
 -- the first restart's copy
 abbrev pub restart_spot : List CaughtFields → List Restart → Option Spot
 restart_spot copies [] = None
 restart_spot copies (restart ∷ restarts) = spot_at copies restart.copy
 
-abbrev pub IsOfRestarts : List CaughtFields → List Restart → Option Reason → Type 0
-IsOfRestarts copies restarts reason = IsToldAt the_word.Restart (length restarts) (restart_spot copies restarts) reason
+abbrev pub IsOfRestarts : List CaughtFields → List (List ℕ) → List Restart → Option Reason → Type 0
+IsOfRestarts copies macs restarts reason =
+    IsToldAt the_word.Restart (length restarts) (restart_spot copies restarts) (option_map (restart_what macs) (slice_get restarts 0)) reason
+
+-- a crowd is greater than another one, or as great and earlier
+abbrev pub is_greater : Crowd → Crowd → Bool
+is_greater crowd most = nat_lt most.frames crowd.frames || ((most.frames == crowd.frames) && nat_lt crowd.first most.first)
+
+-- one of the crowds, than which none is greater
+pub record IsGreatest (crowds : List Crowd) (found : Crowd) : Type 0 where
+  pub there : 0 < found.frames → (k : ℕ) × (slice_get crowds k ≡ Some found)
+  pub most : (k : ℕ) (crowd : Crowd) → slice_get crowds k ≡ Some crowd → is_greater crowd found ≡ false
+
+-- the greatest crowd of so many points, of several as great the first in time
+pub record IsGreatestCrowd (ring : Ring) (copies : List CaughtFields) (many : ℕ) (found : Crowd) : Type 0 where
+  pub crowds : List Crowd
+  pub long : length crowds ≡ many
+  pub are : AreCrowds ring copies crowds
+  pub greatest : IsGreatest crowds found
 
 -- more frames in 400 ms than a table has
 abbrev pub IsOfCrowd : List CaughtFields → Crowd → ℕ → Option Reason → Type 0
-IsOfCrowd copies crowd table reason = IsToldAt the_word.Crowded (one_if (nat_lt table crowd.frames)) (spot_at copies crowd.first) reason
+IsOfCrowd copies crowd table reason = IsToldAt the_word.Crowded (one_if (nat_lt table crowd.frames)) (spot_at copies crowd.first) (Some (the_what.Frames crowd.frames table)) reason
 
 -- ---- silences
 
@@ -307,4 +338,4 @@ silent_count silences untold = min (length silences + length untold) (2 ^ 64 - 1
 
 abbrev pub IsOfSilences : Ring → List CaughtFields → List (List ℕ) → List About → List Silence → Option Reason → Type 0
 IsOfSilences ring copies macs abouts silences reason =
-    IsToldAt the_word.Silent (silent_count silences (untold_in ring macs abouts)) (silence_spot copies (first_from None silences)) reason
+    IsToldAt the_word.Silent (silent_count silences (untold_in ring macs abouts)) (silence_spot copies (first_from None silences)) (silent_what (first_from None silences) (untold_in ring macs abouts)) reason

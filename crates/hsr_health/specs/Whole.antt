@@ -1,5 +1,5 @@
 -- The whole: what is told of a capture.
-use Rattle.std.specs.Prelude.{ℕ, ◌≡◌, ◌+◌, ◌-◌, ◌<◌, ◌≤◌, ◌*◌, ◌^◌, ◌==◌, ◌||◌, max, nat_eq, nat_le, nat_lt, Bool, true, false, List, [], ◌∷◌, ◌++◌, count_by, filter, filter_map, is_some, length, map, option_to_list, reverse, slice_get, IsPermutation, Option, Some, None}
+use Rattle.std.specs.Prelude.{ℕ, ◌≡◌, ◌+◌, ◌-◌, ◌<◌, ◌≤◌, ◌*◌, ◌^◌, ◌==◌, ◌&&◌, ◌||◌, max, nat_eq, nat_le, nat_lt, Bool, true, false, List, [], ◌∷◌, ◌++◌, count_by, filter, filter_map, is_some, length, map, option_to_list, reverse, slice_get, slice_index, if◌then◌else◌, IsPermutation, Option, Some, None}
 use Rattle.std.specs.List.{list_any, range_with_len, sum_by}
 use Rattle.std.specs.List.Sorted.{IsSortedByKey, IsStableByKey}
 use Rattle.std.specs.Ordering.{nat_cmp}
@@ -8,28 +8,29 @@ use Rattle.hsr_capture_reader.specs.Fields.{PacketFields}
 use Rattle.hsr_capture_reader.specs.declared.fields.Losses.{Losses}
 use Rattle.hsr_frame_groups.specs.Frames.{AreInTime, CaughtFields}
 use Rattle.hsr_health.specs.Broken.{AreRuns, runs_of}
-use Rattle.hsr_health.specs.Counted.{AreDirections, AreOfPoints as ArePoints, AreOfSources, AreSources, mark_of, one_more}
-use Rattle.hsr_health.specs.Hearing.{AreHeard, those_of}
+use Rattle.hsr_health.specs.Counted.{AreDirections, AreOfPoints as ArePoints, AreOfSources, AreSources, changed, mark_of, one_more}
+use Rattle.hsr_heard.specs.Hearing.{AreHeard, those_of}
+use Rattle.hsr_heard.specs.Subjects.{AreAbouts}
 use Rattle.hsr_health.specs.Loads.{AreLoads, capped}
 use Rattle.hsr_health.specs.Numbering.{AreGroups, IsLedger, group_name, life_number, numbered_at}
 use Rattle.hsr_health.specs.Order.{in_order, restart_covers, silence_covers, wrong_lanes}
 use Rattle.hsr_health.specs.Kinds.{AreMalformed, AreUntagged, AreVlans}
 use Rattle.hsr_health.specs.Reasons.{AreOfCopies, AreOfPoints, AreOfSources as AreOfKnown, AreOfStrays, AreOfWhole}
 use Rattle.hsr_health.specs.Sources.{HasManySources}
-use Rattle.hsr_health.specs.Told.{IsOfCrowd, is_absent}
+use Rattle.hsr_health.specs.Told.{IsGreatestCrowd, IsOfCrowd, is_absent}
 use Rattle.hsr_health.specs.declared.counts.Counts.{Counts}
-use Rattle.hsr_health.specs.declared.health.Asked.{Asked}
-use Rattle.hsr_health.specs.declared.heard.Heard.{Heard}
-use Rattle.hsr_health.specs.declared.health.Findings.{Findings}
+use Rattle.hsr_health.specs.declared.asked.Asked.{Asked}
+use Rattle.hsr_heard.specs.declared.heard.Heard.{Heard}
+use Rattle.hsr_health.specs.declared.findings.Findings.{Findings}
 use Rattle.hsr_health.specs.declared.health.Health.{Health}
 use Rattle.hsr_health.specs.declared.health.HealthFault.{HealthFault}
 use Rattle.hsr_health.specs.declared.health.HealthFault.TheVariants as fault
-use Rattle.hsr_health.specs.declared.health.Known.{Known}
-use Rattle.hsr_health.specs.declared.health.Measured.{Measured}
-use Rattle.hsr_health.specs.declared.health.Seen.{Seen}
-use Rattle.hsr_health.specs.declared.health.Settled.{Settled}
+use Rattle.hsr_health.specs.declared.known.Known.{Known}
+use Rattle.hsr_health.specs.declared.measured.Measured.{Measured}
+use Rattle.hsr_health.specs.declared.seen.Seen.{Seen}
+use Rattle.hsr_health.specs.declared.settled.Settled.{Settled}
 use Rattle.hsr_health.specs.declared.health.Told.{Told}
-use Rattle.hsr_health.specs.declared.health.Traffic.{Traffic}
+use Rattle.hsr_health.specs.declared.traffic.Traffic.{Traffic}
 use Rattle.hsr_health.specs.declared.order.Facts.{Facts}
 use Rattle.hsr_health.specs.declared.reason.Reason.{Reason}
 use Rattle.hsr_health.specs.declared.sources.Sources.{Sources}
@@ -128,6 +129,27 @@ is_alike before own = own ≡ record before { lives = own.lives; unreadable = ow
 abbrev pub AreAlike : List Counts → List Counts → Type 0
 AreAlike old new = (k : ℕ) (own : Counts) → slice_get new k ≡ Some own → (before : Counts) × (slice_get old k ≡ Some before) × is_alike before own
 
+-- one more supervision frame, if the copy began it, of the source of that copy
+abbrev pub life_put : List ℕ → Heard → List Counts → List Counts
+life_put of_copy one counts = if one.begins then changed one_life (slice_index of_copy one.copy) counts else counts
+
+-- supervision frames of the source at an index: those that can be read, and those that can't
+abbrev pub is_life_of : List ℕ → ℕ → Heard → Bool
+is_life_of of_copy k one = one.begins && (slice_index of_copy one.copy == k)
+
+abbrev pub lives_of : List ℕ → List Heard → ℕ → ℕ
+lives_of of_copy heard k = count_by (is_life_of of_copy k) heard
+
+abbrev pub unreadable_of : List ℕ → List ℕ → ℕ → ℕ
+unreadable_of of_copy unread k = count_by (λ i. slice_index of_copy i == k) unread
+
+-- each of several that had none has so many, and each has as many as before; a number of 64 bits at most
+abbrev pub AreMore : (Counts → ℕ) → (ℕ → ℕ) → List Counts → List Counts → Type 0
+AreMore field many old new = (k : ℕ) (own : Counts) → slice_get new k ≡ Some own → (before : Counts) × (slice_get old k ≡ Some before) × (field before ≡ 0 → field own ≡ capped (many k))
+
+abbrev pub AreAsMany : (Counts → ℕ) → List Counts → List Counts → Type 0
+AreAsMany field old new = (k : ℕ) (own : Counts) → slice_get new k ≡ Some own → (before : Counts) × (slice_get old k ≡ Some before) × (field own ≡ field before)
+
 -- ---- copies
 
 -- copies in the order of time, each of its own packet, at one of 64 points
@@ -155,6 +177,9 @@ pub record IsKnown (ring : Ring) (copies : List CaughtFields) (sources : Sources
   pub heard : List Heard
   pub unread : List ℕ
   pub are_heard : AreHeard ring copies heard unread
+  pub lives_are : (k : ℕ) (own : Counts) → slice_get known.counts.items k ≡ Some own → own.lives ≡ capped (lives_of sources.of_copy.items heard k)
+  pub unreadable_are : (k : ℕ) (own : Counts) → slice_get known.counts.items k ≡ Some own → own.unreadable ≡ capped (unreadable_of sources.of_copy.items unread k)
+  pub abouts : AreAbouts heard ring.start ring.end known.abouts.all.items known.abouts.silences.items
   pub ledger : IsLedger (those_of (numbered_at sources.of_copy.items known.groups.items) copies) (length sources.macs.items) known.ledger
   pub lives : IsLedger (filter_map (life_number sources.of_copy.items) heard) (length sources.macs.items) known.lives
 
@@ -164,12 +189,14 @@ pub record IsMeasured (ring : Ring) (copies : List CaughtFields) (sources : Sour
   pub long : length measured.needed.items ≡ many
   pub needed : AreNeeded ring copies measured.needed.items
   pub crowd : measured.crowd.frames ≡ greatest (map (λ point. most_at ring point (crowd ring) copies) (range_with_len 0 many))
+  pub greatest_crowd : IsGreatestCrowd ring copies many measured.crowd
   pub points : ArePoints ring copies measured.points.items
   pub directions : AreDirections ring many (reverse copies) measured.directions.items
   pub spans : AreRuns ring sources.macs.items (runs_of ring copies many) measured.spans.items
 
 pub record AreFindings (ring : Ring) (copies : List CaughtFields) (taps : List Taps) (many : ℕ) (findings : Findings) : Type 0 where
   pub sources : AreSources copies findings.sources.macs.items findings.sources.of_copy.items
+  pub few : length findings.sources.macs.items ≤ 1024
   pub seen : IsSeen ring copies taps findings.seen
   pub known : IsKnown ring copies findings.sources findings.seen findings.known
   pub measured : IsMeasured ring copies findings.sources many findings.measured

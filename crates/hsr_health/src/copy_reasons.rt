@@ -1,13 +1,15 @@
 //! The reasons that count copies.
-ghost use Rattle.std.specs.Prelude.{◌≡◌, ℕ, Bool, List, count_by, length, reverse, slice_get, IfOk, OnOk, Some};
+ghost use Rattle.std.specs.Prelude.{◌≡◌, ◌-◌, ℕ, Bool, List, count_by, length, reverse, slice_get, IfOk, OnOk, Some};
 ghost use Rattle.hsr_frame_groups.specs.Frames.{CaughtFields};
 ghost use Rattle.hsr_health.specs.Counted.{mark_of};
 ghost use Rattle.hsr_health.specs.Reasons.{AreOfCopies, Puts};
-ghost use Rattle.hsr_health.specs.Told.{IsFirstFlag, IsOfCopies, IsReasonAt, IsToldWith, is_marked, spot_of, such_of, word_of};
+ghost use Rattle.hsr_health.specs.Told.{IsFirstFlag, IsOfCopies, IsToldWith, is_marked, spot_of, such_of, word_of};
+ghost use Rattle.hsr_health.specs.What.{behind_what, behind_what_by, copy_what, copy_what_by};
 ghost use Rattle.hsr_health.specs.declared.reason.Word.TheVariants as the_word;
 ghost use Rattle.hsr_sightings.specs.Copies.{carried_before, is_overtaken};
 ghost use Rattle.hsr_sightings.specs.Ring as the_ring;
-ghost use Rattle.hsr_sightings.specs.Read.{AreOvertaken, TellsEach};
+ghost use Rattle.hsr_sightings.specs.declared.sighting.Sighting as the_sighting;
+ghost use Rattle.hsr_sightings.specs.Read.{AreOvertaken, AreSightings, TellsEach};
 
 use crate::counts::Marks;
 use crate::reason::{Reason, Spot, What, Word, put_reason, what_in};
@@ -106,16 +108,10 @@ pub(crate) fn spot_of(caught: &Caught<'_>) -> Spot
     }
 }
 
-/// How long after its frame's first copy at its point a copy came.
-fn after(caught: &Caught<'_>, seen: Option<&Sighting>) -> u64 {
-    match seen {
-        Some(seen) => caught.at.saturating_sub(seen.at),
-        None => 0,
-    }
-}
-
-/// What is told of such a copy.
-fn what_of(mark: Mark, caught: &Caught<'_>, seen: Option<&Sighting>) -> What {
+/// What is told of such a copy, which came so long after its frame's first copy at its point.
+fn what_of(mark: Mark, caught: &Caught<'_>, time: u64) -> What
+    ensures { result ≡ copy_what_by mark time caught.now }
+{
     let (source, number) = (caught.copy.src, caught.copy.seq);
     match mark {
         Mark::Storm | Mark::Again => What::Copy {
@@ -127,7 +123,7 @@ fn what_of(mark: Mark, caught: &Caught<'_>, seen: Option<&Sighting>) -> What {
         Mark::Late => What::After {
             source,
             number,
-            time: after(caught, seen),
+            time,
         },
         Mark::Size => What::Size {
             source,
@@ -143,11 +139,24 @@ fn what_of(mark: Mark, caught: &Caught<'_>, seen: Option<&Sighting>) -> What {
     }
 }
 
-/// The sighting of the copy at an index.
-fn seen_at(sightings: &Sightings, i: usize) -> Option<&Sighting> {
+/// How long after the first copy of its sighting a copy came, which is told by its number.
+fn after(sightings: &[Sighting], number: u32, caught: &Caught<'_>) -> u64
+    ensures { (seen : the_sighting.Sighting) → slice_get sightings.now number ≡ Some seen → result ≡ caught.now.at - seen.at }
+{
+    match sightings.get(number as usize) {
+        None => 0,
+        Some(seen) => caught.at.saturating_sub(seen.at),
+    }
+}
+
+/// How long after its frame's first copy at its point the copy at an index came.
+fn after_at(sightings: &Sightings, caught: &Caught<'_>, i: usize) -> u64
+    ensures { (seen : the_sighting.Sighting) (number : ℕ) → slice_get sightings.now.of_copy.items i ≡ Some number → slice_get sightings.now.all.items number ≡ Some seen
+        → result ≡ caught.now.at - seen.at }
+{
     match sightings.of_copy.get(i) {
-        Some(number) => sightings.all.get(*number as usize),
-        None => None,
+        None => 0,
+        Some(number) => after(sightings.all.as_slice(), *number, caught),
     }
 }
 
@@ -159,14 +168,15 @@ fn reason_at(
     first: usize,
     count: u64,
 ) -> Option<Reason>
-    ensures { (c : CaughtFields) → slice_get copies.now first ≡ Some c → IsReasonAt mark count c result }
+    ensures { (c : CaughtFields) (seen : the_sighting.Sighting) (number : ℕ) → slice_get copies.now first ≡ Some c → slice_get sightings.now.of_copy.items first ≡ Some number
+        → slice_get sightings.now.all.items number ≡ Some seen → IsToldWith (word_of mark) count (Some (spot_of c)) (copy_what_by mark (c.at - seen.at) c) result }
 {
     let caught = copies.get(first)?;
     Some(Reason {
         word: word_of(mark),
         count,
         spot: Some(spot_of(caught)),
-        what: what_of(mark, caught, seen_at(sightings, first)),
+        what: what_of(mark, caught, after_at(sightings, caught, first)),
     })
 }
 
@@ -181,7 +191,8 @@ fn reason_of(
 ) -> Result<Option<Reason>, NoMemory>
     requires { length marks.now ≡ length carried.now }
     ensures { IfOk result (λ reason. (ring : the_ring.Ring) (is_by_lane : ℕ → Bool) → TellsEach carried_before copies.now carried.now
-        → TellsEach (mark_of is_by_lane ring) copies.now marks.now → IsOfCopies (word_of mark) (such_of mark ring is_by_lane) (reverse copies.now) reason) }
+        → TellsEach (mark_of is_by_lane ring) copies.now marks.now → AreSightings ring copies.now sightings.now.all.items sightings.now.of_copy.items
+        → IsOfCopies (word_of mark) (such_of mark ring is_by_lane) (copy_what mark ring) (reverse copies.now) reason) }
 {
     let flags = flags_of(alloc, mark, carried, marks)?;
     match first_of(flags.as_slice()) {
@@ -192,7 +203,8 @@ fn reason_of(
 
 /// The reason that counts copies which were overtaken, of which this is the first.
 fn overtaken_at(copies: &[Caught<'_>], first: Overtaken, count: u64) -> Option<Reason>
-    ensures { (c : CaughtFields) → slice_get copies.now first.copy ≡ Some c → IsToldWith the_word.Overtaken count (Some (spot_of c)) result }
+    ensures { (c : CaughtFields) → slice_get copies.now first.copy ≡ Some c
+        → IsToldWith the_word.Overtaken count (Some (spot_of c)) (behind_what_by first.behind c) result }
 {
     let caught = copies.get(first.copy as usize)?;
     Some(Reason {
@@ -210,7 +222,7 @@ fn overtaken_at(copies: &[Caught<'_>], first: Overtaken, count: u64) -> Option<R
 
 /// The reason that counts copies which were overtaken, if there are any.
 fn overtaken_reason(copies: &[Caught<'_>], overtaken: &[Overtaken]) -> Option<Reason>
-    ensures { AreOvertaken copies.now overtaken.now → IsOfCopies the_word.Overtaken is_overtaken (reverse copies.now) result }
+    ensures { AreOvertaken copies.now overtaken.now → IsOfCopies the_word.Overtaken is_overtaken behind_what (reverse copies.now) result }
 {
     if overtaken.is_empty() {
         return None;
@@ -230,8 +242,8 @@ fn put_marked(
 ) -> Result<(), NoMemory>
     requires { length marks.now ≡ length carried.now }
     ensures { OnOk result ((ring : the_ring.Ring) (is_by_lane : ℕ → Bool) → TellsEach carried_before copies.now carried.now
-        → TellsEach (mark_of is_by_lane ring) copies.now marks.now
-        → Puts (IsOfCopies (word_of mark) (such_of mark ring is_by_lane) (reverse copies.now)) reasons.old.items reasons.new.items) }
+        → TellsEach (mark_of is_by_lane ring) copies.now marks.now → AreSightings ring copies.now sightings.now.all.items sightings.now.of_copy.items
+        → Puts (IsOfCopies (word_of mark) (such_of mark ring is_by_lane) (copy_what mark ring) (reverse copies.now)) reasons.old.items reasons.new.items) }
 {
     let reason = reason_of(alloc, mark, copies, carried, sightings, marks)?;
     let _what = what_in(&reason);
@@ -250,7 +262,8 @@ pub(crate) fn copy_reasons(
 ) -> Result<Vec<Reason>, NoMemory>
     requires { length marks.now ≡ length carried.now }
     ensures { IfOk result (λ reasons. (ring : the_ring.Ring) (is_by_lane : ℕ → Bool) → TellsEach carried_before copies.now carried.now
-        → TellsEach (mark_of is_by_lane ring) copies.now marks.now → AreOvertaken copies.now overtaken.now → AreOfCopies ring is_by_lane (reverse copies.now) reasons.items) }
+        → TellsEach (mark_of is_by_lane ring) copies.now marks.now → AreSightings ring copies.now sightings.now.all.items sightings.now.of_copy.items → AreOvertaken copies.now overtaken.now
+        → AreOfCopies ring is_by_lane (reverse copies.now) reasons.items) }
 {
     let mut reasons = Vec::new(alloc);
     put_marked(

@@ -3,7 +3,7 @@ ghost use Rattle.std.specs.Prelude.{◌≡◌, ◌++◌, ℕ, Bool, List, filter
 ghost use Rattle.hsr_frame.specs.Address.{is_group};
 ghost use Rattle.hsr_frame_groups.specs.Frames.{CaughtFields};
 ghost use Rattle.hsr_health.specs.Counted.{AreCounted, AreFated, AreOfSources, AreSkewed, AreSources, HaveNoFates, HaveNoLives, changed, counts_with, fates_with, mark_by, mark_of, more_if, no_counts, told_by, with_fate, with_skew};
-ghost use Rattle.hsr_health.specs.Spreads.{AreSpreads};
+ghost use Rattle.hsr_spread.specs.Spreads.{AreSpreads};
 ghost use Rattle.hsr_health.specs.declared.counts.Counts as the_counts;
 ghost use Rattle.hsr_sightings.specs.Copies.{is_clash, is_late};
 ghost use Rattle.hsr_sightings.specs.Frames.{begins};
@@ -12,11 +12,11 @@ ghost use Rattle.hsr_sightings.specs.Ring as the_ring;
 ghost use Rattle.hsr_sightings.specs.Seen.{fate_of};
 ghost use Rattle.hsr_taps.specs.Tallies.{is_at};
 
-use crate::spread::{Spread, Told, spreads_of};
 use hsr_frame::NoMemory;
 use hsr_frame_copies::has_right_size;
 use hsr_frame_groups::Caught;
 use hsr_sightings::{Fate, Ring, Sighting, fate_of, skew_of};
+use hsr_spread::{Spread, Told, spreads_of};
 use std::alloc::Global;
 
 /// How many frames had each fate, once for each point that saw them.

@@ -2,16 +2,15 @@
 ghost use Rattle.std.specs.Prelude.{◌≡◌, ◌<◌, ◌≤◌, ◌^◌, ◌++◌, ℕ, Bool, filter_map, find, length, map, option_to_list, slice_index, IfOk, OnOk};
 ghost use Rattle.hsr_frame.specs.Address.{is_same_address};
 ghost use Rattle.hsr_health.specs.Counted.{changed, mark_of};
-ghost use Rattle.hsr_health.specs.Hearing.{those_of};
+ghost use Rattle.hsr_heard.specs.Hearing.{those_of};
 ghost use Rattle.hsr_health.specs.Numbering.{AreByRun, AreGroups, IsFirstSame, IsLedger, group_name, is_numbered, life_number, number_if, numbered_at, sums_by, with_gap, with_gaps, with_restart, with_restarts};
 ghost use Rattle.hsr_sightings.specs.Ring as the_ring;
 ghost use Rattle.hsr_sightings.specs.Read.{TellsEach};
 
-use crate::abouts::About;
 use crate::counts::{Marks, source_of};
-use crate::heard::Heard;
 use hsr_frame::{Mac, NoMemory};
 use hsr_frame_groups::Caught;
+use hsr_heard::{About, Heard};
 use hsr_number_runs::{Gap, InRun, Numbered, Restart, Runs, elsewhere_of, gaps_of, runs_of};
 use std::alloc::Global;
 

@@ -1,10 +1,7 @@
 //! The health of a ring, as a capture shows it: all numbers of a report, and the reasons for doubt.
 //!
 //! Its modules, in the order in which to read them:
-//! - `spread`: the least, the lower median and the greatest of numbers
 //! - `sources`: who sent frames
-//! - `heard`: what supervision frames say
-//! - `abouts`: whom supervision tells of, and when it was silent
 //! - `counts`: what is counted of each source
 //! - `directions`: what is told of points and of directions
 //! - `ledger`: the numbers of sources: gaps and restarts
@@ -13,36 +10,57 @@
 //! - `by_key`: numbers counted by what they are
 //! - `kinds`: packets that are no copies, by kind, and frames by VLAN
 //! - `reason`: a reason for doubt
-//! - `copy_reasons`, `other_reasons`: the reasons that hold
+//! - `copy_reasons`: the reasons that count copies
+//! - `whole_reasons`: those that speak of the whole capture, and of sources that are absent
+//! - `point_reasons`: those that speak of points
+//! - `source_reasons`: those that speak of sources and their numbers, and of how many frames come at once
+//! - `silent_reason`: the one that counts silences
+//! - `stray_reasons`: those that count packets which are no copies
 //! - `order`: which of them comes first
+//! - `asked`: what is asked of a capture
+//! - `traffic`: what came by its taps, and when
+//! - `seen`: what copies tell of one another
+//! - `known`: what sources and their supervision tell
+//! - `measured`: what is told of points and of directions
+//! - `findings`: all that is told of copies, but the reasons
+//! - `all_reasons`: all reasons that hold
+//! - `settled`: the reasons in their order, and what else is told behind copies
 //! - `health`: the whole
 #![tactic(auto)]
 
-mod abouts;
+mod all_reasons;
+mod asked;
 mod broken;
 mod by_key;
 mod copy_reasons;
 mod counts;
 mod directions;
+mod findings;
 mod health;
-mod heard;
 mod kinds;
+mod known;
 mod ledger;
 mod load;
+mod measured;
 mod order;
-mod other_reasons;
+mod point_reasons;
 mod reason;
+mod seen;
+mod settled;
+mod silent_reason;
+mod source_reasons;
 mod sources;
-mod spread;
+mod stray_reasons;
+mod traffic;
+mod whole_reasons;
 
-pub use abouts::{About, Silence};
+pub use asked::Asked;
 pub use broken::{Span, is_thin};
 pub use counts::{Counts, Fates};
 pub use directions::{DirectionNumbers, PointNumbers};
-pub use health::{Asked, Health, HealthFault, health_of};
+pub use health::{Health, HealthFault, health_of};
 pub use kinds::{MalformedKind, UntaggedKind, VlanKind};
 pub use ledger::GroupNumbers;
 pub use load::Load;
 pub use reason::{Reason, Spot, What, Word};
 pub use sources::MOST_SOURCES;
-pub use spread::Spread;

@@ -2,11 +2,11 @@
 ghost use Rattle.std.specs.Prelude.{◌≡◌, ◌*◌, ◌++◌, ◌==◌, filter, nat_le, IfOk, OnOk};
 ghost use Rattle.hsr_health.specs.Order.{began_in, begins_in, in_order, rank_of, restart_covers, silence_covers, wrong_lanes};
 
-use crate::abouts::Silence;
 use crate::broken::{Span, is_thin};
 use crate::counts::Counts;
 use crate::reason::{Reason, Word};
 use hsr_frame::NoMemory;
+use hsr_heard::Silence;
 use hsr_number_runs::Restart;
 use std::alloc::Global;
 

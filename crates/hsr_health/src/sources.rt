@@ -2,9 +2,11 @@
 ghost use Rattle.std.specs.Prelude.{◌≡◌, ◌-◌, ◌<◌, ◌≤◌, ℕ, Contains, List, length, map, nat_lt, slice_get, IfNone, IfOk, IfSome, OnOk, Some};
 ghost use Rattle.hsr_frame.specs.Address.{IsAddress, is_same_address};
 ghost use Rattle.hsr_health.specs.Counted.{AreSources};
-ghost use Rattle.hsr_health.specs.Sources.{AreIndexes, AreThere, HasManySources, HaveAddresses, IsPart, IsPlace, Rise, address_of, index_if, mac_by, number_of, octet_of, source_number};
+ghost use Rattle.hsr_health.specs.Sources.{AreIndexes, AreThere, HasManySources, HaveAddresses, IsPart, IsPlace, Rise, index_if, mac_by, source_number};
+ghost use Rattle.hsr_address.specs.Numbers.{number_of};
 
 use crate::by_key::{KeyCount, counts_by_key};
+use hsr_address::{mac_of, number_of};
 use hsr_frame::{Mac, NoMemory};
 use hsr_frame_groups::Caught;
 use std::alloc::Global;
@@ -19,42 +21,12 @@ pub(crate) struct Sources {
     pub(crate) of_copy: Vec<u32>,
 }
 
-/// An address as a number.
-fn number_of(mac: Mac) -> u64
-    ensures number { result ≡ number_of mac }
-    ensures address { IsAddress mac }
-{
-    let [a, b, c, d, e, f] = mac.octets();
-    u64::from_be_bytes([0, 0, a, b, c, d, e, f])
-}
-
 /// The source of a copy, as a number.
 fn source_of(caught: &Caught<'_>) -> u64
     ensures number { result ≡ source_number caught.now }
     ensures address { IsAddress caught.now.copy.src }
 {
     number_of(caught.copy.src)
-}
-
-/// An octet of a number, by its unit.
-fn octet_of(number: u64, unit: u64) -> u8
-    requires { 0 < unit }
-    ensures { result ≡ octet_of number unit }
-{
-    (number / unit % 256) as u8
-}
-
-/// The address of a number.
-fn mac_of(number: u64) -> Mac
-    ensures { result ≡ address_of number }
-{
-    let a = octet_of(number, 1_099_511_627_776);
-    let b = octet_of(number, 4_294_967_296);
-    let c = octet_of(number, 16_777_216);
-    let d = octet_of(number, 65536);
-    let e = octet_of(number, 256);
-    let f = octet_of(number, 1);
-    Mac::new([a, b, c, d, e, f])
 }
 
 /// The sources of copies, as numbers.
@@ -155,6 +127,7 @@ fn is_over(counts: &[KeyCount]) -> bool
 /// The sources of copies; none where there are too many.
 pub(crate) fn sources_of(alloc: Global, copies: &[Caught<'_>]) -> Result<Option<Sources>, NoMemory>
     ensures some { IfOk result (λ found. IfSome found (λ s. AreSources copies.now s.macs.items s.of_copy.items)) }
+    ensures few { IfOk result (λ found. IfSome found (λ s. length s.macs.items ≤ 1024)) }
     ensures none { IfOk result (λ found. IfNone found (HasManySources copies.now)) }
 {
     let mut numbers = numbers_of(alloc, copies)?;

@@ -4,7 +4,7 @@ use Rattle.std.specs.List.{flat_map, range_with_len}
 use Rattle.hsr_supervision.specs.declared.payload.SupKind.{SupKind}
 use Rattle.hsr_supervision.specs.declared.payload.SupKind.TheVariants as kind
 use Rattle.hsr_text.specs.Words.{mac_text}
-use Rattle.hsr_health.specs.declared.abouts.About.{About}
+use Rattle.hsr_heard.specs.declared.abouts.About.{About}
 use Rattle.hsr_health.specs.declared.counts.Counts.{Counts}
 use Rattle.hsr_health.specs.declared.counts.Fates.{Fates}
 use Rattle.hsr_health.specs.declared.health.Health.{Health}

@@ -5,7 +5,7 @@ use Rattle.std.specs.Int.{to_be_bytes, w16}
 use Rattle.std.specs.List.{flat_map}
 use Rattle.hex.specs.Hex.{encode_upper}
 use Rattle.hsr_text.specs.Words.{mac_text}
-use Rattle.hsr_health.specs.declared.spread.Spread.{Spread}
+use Rattle.hsr_spread.specs.declared.spread.Spread.{Spread}
 
 -- a word and a number
 unfoldable pub pair_text : List ℕ → ℕ → List ℕ
@@ -38,9 +38,13 @@ abbrev pub printed : ℕ → List ℕ
 printed octet =
     if nat_le 32 octet && nat_le octet 126 then octet ∷ [] else (if nat_le 128 octet && nat_le octet 191 then [] else 63 ∷ [])
 
+-- a dash where nothing is left
+abbrev pub or_dash : List ℕ → List ℕ
+or_dash [] = codes "-"
+or_dash (octet ∷ text) = octet ∷ text
+
 unfoldable pub name_text : List ℕ → List ℕ
-name_text [] = codes "-"
-name_text (octet ∷ name) = flat_map printed (octet ∷ name)
+name_text name = or_dash (flat_map printed name)
 
 -- addresses, parted by commas
 abbrev pub comma_text : List ℕ → List ℕ

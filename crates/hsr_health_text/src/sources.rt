@@ -6,7 +6,8 @@ ghost use Rattle.hsr_health_text.specs.Sources.{copies_line, fates_text, flaws_t
 
 use crate::words::{end_line, put_mac_or_dash, put_maybe, put_pair, put_spread, us_since};
 use hsr_frame::{Mac, NoMemory};
-use hsr_health::{About, Counts, Fates, GroupNumbers, Health};
+use hsr_health::{Counts, Fates, GroupNumbers, Health};
+use hsr_heard::About;
 use hsr_supervision::SupKind;
 use hsr_text::{put, put_mac};
 use std::alloc::Global;

@@ -6,7 +6,7 @@ ghost use Rattle.hsr_text.specs.Words.{mac_text};
 ghost use Rattle.hsr_health_text.specs.Words.{clock_text, comma_text, date_text, day_of_year, four, hex_text, kbits, mac_or_dash, macs_text, maybe_text, micros_text, month_of, name_text, pair_text, printed, rate_text, spread_text, three, time_text, two, us_since, year_of, year_of_era};
 
 use hsr_frame::{Mac, NoMemory};
-use hsr_health::Spread;
+use hsr_spread::Spread;
 use hsr_text::{put, put_hex, put_mac, put_number};
 use std::alloc::Global;
 
@@ -95,16 +95,26 @@ fn put_printed(text: &mut Vec<u8>, octet: u8) -> Result<(), NoMemory>
     Ok(())
 }
 
-/// Puts a name last, or a dash where it is empty.
-#[tactic(auto, unfolding(crate::specs::Words::name_text), using(hsr_frame::proofs::OneMore::grown))]
+/// Puts the characters of a name last.
+#[tactic(auto, using(hsr_frame::proofs::OneMore::grown))]
+fn put_characters(text: &mut Vec<u8>, name: &[u8]) -> Result<(), NoMemory>
+    ensures { OnOk result (text.new.items ≡ text.old.items ++ flat_map printed name.now) }
+{
+    for octet in name {
+        put_printed(text, *octet)?;
+    }
+    Ok(())
+}
+
+/// Puts a name last, or a dash where nothing of it can be shown.
+#[tactic(auto, unfolding(crate::specs::Words::name_text), using(crate::proofs::Named::unnamed, crate::proofs::Named::named))]
 pub fn put_name(text: &mut Vec<u8>, name: &[u8]) -> Result<(), NoMemory>
     ensures { OnOk result (text.new.items ≡ text.old.items ++ name_text name.now) }
 {
-    if name.is_empty() {
+    let before = text.len();
+    put_characters(text, name)?;
+    if text.len() == before {
         return put(text, "-");
-    }
-    for octet in name {
-        put_printed(text, *octet)?;
     }
     Ok(())
 }

@@ -1,5 +1,6 @@
 pub mod Copies
 pub mod Joining
+pub mod Judged
 pub mod Order
 pub mod Ordered
 pub mod Ranges

@@ -1,14 +1,16 @@
 -- How many frames began at a point in the last 400 ms, one copy after the other.
-use Rattle.std.proofs.Common.{◌≡◌, ℕ, zero, suc, ◌+◌, ◌-◌, ◌<◌, ◌≤◌, max, Bool, true, false, cond, ◌&&◌, List, [], ◌∷◌, ◌++◌, length, reverse, get_or, ◌⊎◌, inl, inr, refl, sym, ap, ◌∙◌, arith, Option, Some, None}
+use Rattle.std.proofs.Common.{◌≡◌, ℕ, zero, suc, ◌+◌, ◌-◌, ◌<◌, ◌≤◌, max, Bool, true, false, cond, ◌&&◌, List, [], ◌∷◌, ◌++◌, length, reverse, get_or, ◌⊎◌, inl, inr, refl, sym, ap, subst, ◌∙◌, arith, Option, Some, None}
+use Rattle.std.specs.List.{AllZip}
 use Rattle.std.specs.Prelude.{nat_lt, filter, slice_get}
-use Rattle.std.proofs.lemmas.Bool.{and_parts, cases_lt, cond-false, cond-true, eqb-true, le-ltb, lt-ltb}
-use Rattle.std.proofs.lemmas.List.{length_push, take_all}
+use Rattle.std.proofs.lemmas.Bool.{and_parts, cases_lt, cond-false, cond-true, eq-eqb, eqb-true, le-ltb, lt-ltb}
+use Rattle.std.proofs.lemmas.List.{append-nil, length_push, reverse-append, reverse-reverse, take_all}
+use Rattle.std.proofs.lemmas.List.Elements.{filter-append}
 use Rattle.std.proofs.lemmas.List.Sums.{length-filter, sum_by_push}
 use Rattle.std.proofs.lemmas.Option.{same_Some, slice_get-get_or, slice_get_within}
 use Rattle.hsr_frame_groups.specs.Frames.{AreInTime, CaughtFields, past_of}
-use Rattle.hsr_sightings.specs.Copies.{begins_there, begun_at, crowd, is_recent}
-use Rattle.hsr_sightings.specs.Crowding.{IsCrowding, IsRecentFrom}
-use Rattle.hsr_sightings.specs.Read.{IsCrowd, most_in}
+use Rattle.hsr_sightings.specs.Copies.{begins_there, begun_at, crowd, first_crowded, first_of_past, is_recent}
+use Rattle.hsr_sightings.specs.Crowding.{IsCrowding, IsKeptOf, IsRecentFrom}
+use Rattle.hsr_sightings.specs.Read.{IsCrowd, IsFull, most_in}
 use Rattle.hsr_sightings.specs.Ring.{Ring, forget_time, is_at, point_of}
 use Rattle.hsr_sightings.specs.declared.late.Begun.{Begun}
 use Rattle.hsr_sightings.specs.declared.late.Crowd.{Crowd}
@@ -70,7 +72,73 @@ still_crowding ring copies point i c things from most here nothing is = record {
   old = λ k n b d below at_k le at_n. is.old k n b d below at_k (omega (arith, le)) at_n;
   within = is.within;
   frames = is.frames ∙ sym (most_still ring copies point i c here nothing);
+  begun = subst (λ l. AllZip (IsKeptOf copies) things (reverse l)) (sym (nothing_new ring copies point i c here nothing)) is.begun;
+  full = is.full;
 }
+
+-- ---- the first of those that are recent
+
+last_of : (d c : CaughtFields) (xs : List CaughtFields) → first_of_past d (xs ++ c ∷ []) ≡ c
+last_of d c [] = refl
+last_of d c (x ∷ xs) = last_of x c xs
+
+first_recent : (copies : List CaughtFields) (test : ℕ → Bool) (things : List Begun) (begun : List CaughtFields) (found : ℕ) (own : Begun) (d : CaughtFields) → AllZip (IsKeptOf copies) things begun
+    → slice_get things found ≡ Some own → test own.at ≡ true → ((k : ℕ) (b : Begun) → k < found → slice_get things k ≡ Some b → test b.at ≡ false)
+    → slice_get copies own.copy ≡ Some (first_of_past d (filter (λ (x : CaughtFields). test x.at) (reverse begun)))
+first_recent copies test [] begun found own d are here recent old = absurd cc
+first_recent copies test (b ∷ things) [] found own d are here recent old = absurd are
+first_recent copies test (b ∷ things) (c ∷ begun) zero own d are here recent old =
+    let same : b ≡ own = same_Some b own here in
+    let is : test c.at ≡ true = sym (ap test are.0.1) ∙ ap (λ (x : Begun). test x.at) same ∙ recent in
+    ap (λ (x : Begun). slice_get copies x.copy) (sym same) ∙ are.0.0
+    ∙ ap Some (sym (ap (λ l. first_of_past d (filter (λ (x : CaughtFields). test x.at) l)) (reverse-append (c ∷ []) begun)
+    ∙ ap (first_of_past d) (filter-append (λ (x : CaughtFields). test x.at) (reverse begun) (c ∷ []) ∙ ap (λ t. filter (λ (x : CaughtFields). test x.at) (reverse begun) ++ cond t (c ∷ []) []) is)
+    ∙ last_of d c (filter (λ (x : CaughtFields). test x.at) (reverse begun))))
+first_recent copies test (b ∷ things) (c ∷ begun) (suc found) own d are here recent old =
+    let is : test c.at ≡ false = sym (ap test are.0.1) ∙ old 0 b (omega arith) refl in
+    first_recent copies test things begun found own d are.1 here recent (λ k x below at_k. old (suc k) x (omega (arith, below)) at_k)
+    ∙ ap Some (sym (ap (λ l. first_of_past d (filter (λ (x : CaughtFields). test x.at) l)) (reverse-append (c ∷ []) begun)
+    ∙ ap (first_of_past d) (filter-append (λ (x : CaughtFields). test x.at) (reverse begun) (c ∷ []) ∙ ap (λ t. filter (λ (x : CaughtFields). test x.at) (reverse begun) ++ cond t (c ∷ []) []) is
+    ∙ append-nil (filter (λ (x : CaughtFields). test x.at) (reverse begun)))))
+
+begun_push : (copies : List CaughtFields) (things : List Begun) (begun : List CaughtFields) (b : Begun) (c : CaughtFields) → AllZip (IsKeptOf copies) things begun → IsKeptOf copies b c
+    → AllZip (IsKeptOf copies) (things ++ b ∷ []) (begun ++ c ∷ [])
+begun_push copies [] [] b c are is = (is, tt)
+begun_push copies [] (x ∷ begun) b c are is = absurd are
+begun_push copies (t ∷ things) [] b c are is = absurd are
+begun_push copies (t ∷ things) (x ∷ begun) b c are is = (are.0, begun_push copies things begun b c are.1 is)
+
+-- no crowd was greater than the most
+crowd_at_most : (ring : Ring) (copies : List CaughtFields) (point i k : ℕ) (c : CaughtFields) → k < i → i ≤ length copies → slice_get copies k ≡ Some c → is_at ring point c ≡ true
+    → crowd ring (past_of copies k) c ≤ most_in ring point (crowd ring) (past_of copies i)
+crowd_at_most ring copies point zero k c below le here place = absurd (omega (arith, below))
+crowd_at_most ring copies point (suc i) k c below le here place = by_case (λ before. crowd_at_most ring copies point i k c before (omega (arith, le)) here place) (cases_lt k i)
+  where
+    next : suc i ≡ i + 1
+    next = omega arith
+
+    grown : (x : CaughtFields) → slice_get copies i ≡ Some x
+        → most_in ring point (crowd ring) (past_of copies (suc i)) ≡ max (cond (is_at ring point x) (crowd ring (past_of copies i) x) 0) (most_in ring point (crowd ring) (past_of copies i))
+    grown x at_i = ap (λ n. most_in ring point (crowd ring) (past_of copies n)) next ∙ ap (most_in ring point (crowd ring)) (past_more copies i x at_i)
+
+    by_copy : crowd ring (past_of copies k) c ≤ most_in ring point (crowd ring) (past_of copies i) → (o : Option CaughtFields) → slice_get copies i ≡ o
+        → crowd ring (past_of copies k) c ≤ most_in ring point (crowd ring) (past_of copies (suc i))
+    by_copy rest None none = absurd (none_there copies i (omega (arith, le)) none)
+    by_copy rest (Some x) at_i = let more = grown x at_i in at_most _ _ _ _ more rest
+      where
+        at_most : (n m old new : ℕ) → new ≡ max m old → n ≤ old → n ≤ new
+        at_most n m old new is less = omega (arith, is, less)
+
+    by_case : (k < i → crowd ring (past_of copies k) c ≤ most_in ring point (crowd ring) (past_of copies i)) → (k < i) ⊎ (i ≤ k)
+        → crowd ring (past_of copies k) c ≤ most_in ring point (crowd ring) (past_of copies (suc i))
+    by_case rest (inl before) = by_copy (rest before) (slice_get copies i) refl
+    by_case rest (inr past) =
+        let same : k ≡ i = omega (arith, past, below) in
+        let more = grown c (sym (ap (slice_get copies) same) ∙ here) in
+        own_most _ _ _ _ (more ∙ ap (λ b. max (cond b (crowd ring (past_of copies i) c) 0) (most_in ring point (crowd ring) (past_of copies i))) place) (ap (λ n. crowd ring (past_of copies n) c) same)
+      where
+        own_most : (n m old new : ℕ) → new ≡ max m old → n ≡ m → n ≤ new
+        own_most n m old new is own = omega (arith, is, own)
 
 -- ---- a copy that begins one
 
@@ -100,15 +168,18 @@ most_new ring copies point i n c here begins n_is =
     parts = and_parts (is_at ring point c) (begins_there ring past c) begins
 
 pub more_crowding : (ring : Ring) (copies : List CaughtFields) (point i : ℕ) (c : CaughtFields) (things new : List Begun) (own : Begun) (from found : ℕ) (most after : Crowd) → AreInTime copies
-    → slice_get copies i ≡ Some c → (is_at ring point c && begins_there ring (past_of copies i) c) ≡ true → IsCrowding ring copies point i things from most → own.at ≡ c.at → new ≡ things ++ own ∷ []
-    → IsRecentFrom new from c.at found → after.frames ≡ max (length new - found) most.frames → IsCrowding ring copies point (i + 1) new found after
-more_crowding ring copies point i c things new own from found most after time here begins is own_at new_is recent after_is = record {
+    → slice_get copies i ≡ Some c → (is_at ring point c && begins_there ring (past_of copies i) c) ≡ true → IsCrowding ring copies point i things from most → own.at ≡ c.at → own.copy ≡ i → new ≡ things ++ own ∷ []
+    → IsRecentFrom new from c.at found → after.frames ≡ max (length new - found) most.frames → (length new - found ≤ most.frames → after ≡ most)
+    → (most.frames < length new - found → (b : Begun) → slice_get new found ≡ Some b → after.first ≡ b.copy) → IsCrowding ring copies point (i + 1) new found after
+more_crowding ring copies point i c things new own from found most after time here begins is own_at own_copy new_is recent after_is kept first = record {
   counts = counts;
   rises = λ j k a b before at_j at_k. rises j k a b before (pushed j a at_j) (pushed k b at_k) at_k;
   past = λ k n b d at_k le at_n. past k n b d (pushed k b at_k) le at_n;
   old = λ k n b d below at_k le at_n. far k n b d (cases_lt k from) below at_k (omega (arith, le)) at_n;
   within = recent.within;
   frames = after_is ∙ ap (max (length new - found)) is.frames ∙ sym (most_new ring copies point i (length new - found) c here begins number);
+  begun = begun;
+  full = λ some. by_most some (cases_lt most.frames (length new - found));
 }
   where
     pushed : (k : ℕ) (b : Begun) → slice_get new k ≡ Some b → (slice_get things k ≡ Some b) ⊎ ((k ≡ length things) × (b ≡ own))
@@ -177,6 +248,50 @@ more_crowding ring copies point i c things new own from found most after time he
         let same = counts (λ at. nat_lt (c.at - at) forget_time) in
         omega (arith, sum, same)
 
+    begun : AllZip (IsKeptOf copies) new (reverse (begun_at ring point (past_of copies (i + 1))))
+    begun =
+        subst (λ l. AllZip (IsKeptOf copies) new (reverse l)) (sym (begins_new ring copies point i c here begins))
+        (subst (AllZip (IsKeptOf copies) new) (sym (reverse-append (c ∷ []) (begun_at ring point (past_of copies i))))
+        (subst (λ l. AllZip (IsKeptOf copies) l (reverse (begun_at ring point (past_of copies i)) ++ c ∷ [])) (sym new_is)
+        (begun_push copies things (reverse (begun_at ring point (past_of copies i))) own c is.begun (ap (slice_get copies) own_copy ∙ here, own_at))))
+
+    parts : (is_at ring point c ≡ true) × (begins_there ring (past_of copies i) c ≡ true)
+    parts = and_parts (is_at ring point c) (begins_there ring (past_of copies i) c) begins
+
+    place : point_of ring c ≡ point
+    place = eqb-true (point_of ring c) point parts.0
+
+    recents : filter (λ b. is_recent b c) (begun_at ring point (past_of copies (i + 1))) ≡ filter (λ b. is_recent b c) (begun_at ring (point_of ring c) (c ∷ past_of copies i))
+    recents = ap (λ l. filter (λ b. is_recent b c) (begun_at ring point l)) (past_more copies i c here) ∙ ap (λ p. filter (λ b. is_recent b c) (begun_at ring p (c ∷ past_of copies i))) (sym place)
+
+    crowd_is : crowd ring (past_of copies i) c ≡ length new - found
+    crowd_is =
+        ap (λ b. cond b (length (filter (λ x. is_recent x c) (begun_at ring (point_of ring c) (c ∷ past_of copies i)))) 0) parts.1
+        ∙ sym (ap length recents) ∙ sym number
+
+    first_is : most.frames < length new - found → slice_get copies after.first ≡ Some (first_crowded ring (past_of copies i) c)
+    first_is less =
+        let at_found : slice_get new found ≡ Some (get_or new found own) = slice_get-get_or new found own (omega (arith, less)) in
+        ap (slice_get copies) (first less (get_or new found own) at_found)
+        ∙ first_recent copies (λ at. nat_lt (c.at - at) forget_time) new (reverse (begun_at ring point (past_of copies (i + 1)))) found (get_or new found own) c begun at_found
+        (is_new found (get_or new found own) (omega arith) at_found) is_old
+        ∙ ap (λ l. Some (first_of_past c (filter (λ b. is_recent b c) l))) (reverse-reverse (begun_at ring point (past_of copies (i + 1)))) ∙ ap (λ l. Some (first_of_past c l)) recents
+
+    by_most : 0 < after.frames → (most.frames < length new - found) ⊎ (length new - found ≤ most.frames) → IsFull ring copies point after
+    by_most some (inl less) = record {
+      last = i;
+      copy = c;
+      there = here;
+      place = place;
+      frames = omega (arith, crowd_is, after_is, less);
+      sooner = λ k x before at_k at_point.
+          let inside = slice_get_within copies i c here in
+          let most_is = crowd_at_most ring copies point i k x before (omega (arith, inside)) at_k (eq-eqb (point_of ring x) point at_point) in
+          omega (arith, most_is, is.frames, after_is, less);
+      first = first_is less;
+    }
+    by_most some (inr no_more) = let same = kept no_more in subst (IsFull ring copies point) (sym same) (is.full (omega (arith, some, ap (λ (x : Crowd). x.frames) same)))
+
 -- the end of the list is recent
 pub recent_within : (things new : List Begun) (own : Begun) (from at found : ℕ) → new ≡ things ++ own ∷ [] → own.at ≡ at → from ≤ length things → IsRecentFrom new from at found → found < length new
 recent_within things new own from at found new_is own_at within recent = by_case (cases_lt found (length new))
@@ -211,8 +326,13 @@ no_crowding ring copies point most none = record {
   old = λ k n b c below at_k le at_n. absurd cc;
   within = omega arith;
   frames = none;
+  begun = tt;
+  full = λ some. absurd (omega (arith, none, some));
 }
 
 pub whole_crowd : (ring : Ring) (copies : List CaughtFields) (point n : ℕ) (things : List Begun) (from : ℕ) (most : Crowd) → n ≡ length copies → IsCrowding ring copies point n things from most
     → IsCrowd ring copies point most
-whole_crowd ring copies point n things from most all_read is = record { frames = is.frames ∙ ap (most_in ring point (crowd ring)) (ap reverse (take_all n copies (omega (arith, all_read)))) }
+whole_crowd ring copies point n things from most all_read is = record {
+  frames = is.frames ∙ ap (most_in ring point (crowd ring)) (ap reverse (take_all n copies (omega (arith, all_read))));
+  full = is.full;
+}

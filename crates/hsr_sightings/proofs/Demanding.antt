@@ -5,7 +5,7 @@ use Rattle.std.proofs.lemmas.Bool.{and_from, and_left, and_right, cases_eq, case
 use Rattle.std.proofs.lemmas.List.{length-set, take_all}
 use Rattle.std.proofs.lemmas.Option.{get_or_from_slice_get, same_Some, slice_get-get_or, slice_get_within}
 use Rattle.hsr_frame_groups.specs.Frames.{CaughtFields, past_of}
-use Rattle.hsr_sightings.specs.Copies.{begins_there, begun_at, count_from, first_of_past, first_there, is_late, needed}
+use Rattle.hsr_sightings.specs.Copies.{after, begins_there, begun_at, count_from, first_of_past, first_there, is_late, needed}
 use Rattle.hsr_sightings.specs.Demand.{IsDemand, at_least, begun_with, needed_with, one_more}
 use Rattle.hsr_sightings.specs.Frames.{frame_of}
 use Rattle.hsr_sightings.specs.Read.{AreNeeded, AreSightings, HaveOwnNumbers, IsBegun, IsSameSighting, IsSightingOf, most_in}
@@ -246,12 +246,10 @@ begins_by ring copies all of_copy i k c seen are here number at_k = by_order (ca
     by_order (inr (inr after)) =
         absurd (same_begin ring copies i seen.first c of_c.begun.copy here of_c.begun.there of_c.begun.begins after (record { frame = sym of_c.same.frame; point = sym of_c.same.point }))
 
--- whether it is late is told by the first copy of its sighting
-pub late_by : (ring : Ring) (copies : List CaughtFields) (all : List Sighting) (of_copy : List ℕ) (i k : ℕ) (c : CaughtFields) (seen : Sighting) → AreSightings ring copies all of_copy
-    → slice_get copies i ≡ Some c → slice_get of_copy i ≡ Some k → slice_get all k ≡ Some seen → is_late ring (past_of copies i) c ≡ nat_le forget_time (c.at - seen.at)
-late_by ring copies all of_copy i k c seen are here number at_k =
-    ap (λ (f : CaughtFields). not (nat_lt (c.at - f.at) forget_time)) (first (cases_order seen.first i)) ∙ late_same (c.at - of_c.begun.copy.at) forget_time
-    ∙ ap (λ n. nat_le forget_time (c.at - n)) (sym of_c.begun.is.at)
+-- how long after its frame's first copy at its point it came is told by the first copy of its sighting
+pub after_by : (ring : Ring) (copies : List CaughtFields) (all : List Sighting) (of_copy : List ℕ) (i k : ℕ) (c : CaughtFields) (seen : Sighting) → AreSightings ring copies all of_copy
+    → slice_get copies i ≡ Some c → slice_get of_copy i ≡ Some k → slice_get all k ≡ Some seen → after (first_there ring (past_of copies i) c) c ≡ c.at - seen.at
+after_by ring copies all of_copy i k c seen are here number at_k = ap (λ (f : CaughtFields). c.at - f.at) (first (cases_order seen.first i)) ∙ ap (λ n. c.at - n) (sym of_c.begun.is.at)
   where
     of_c : IsOwn ring copies i c seen
     of_c = own_sighting ring copies all of_copy i k c seen are here number at_k
@@ -270,6 +268,12 @@ late_by ring copies all of_copy i k c seen are here number at_k =
         ∙ first_is ring copies seen.first i of_c.begun.copy c of_c.begun.there of_c.begun.begins before (omega (arith, inside))
     first (inr (inr after)) =
         absurd (same_begin ring copies i seen.first c of_c.begun.copy here of_c.begun.there of_c.begun.begins after (record { frame = sym of_c.same.frame; point = sym of_c.same.point }))
+
+-- whether it is late, too
+pub late_by : (ring : Ring) (copies : List CaughtFields) (all : List Sighting) (of_copy : List ℕ) (i k : ℕ) (c : CaughtFields) (seen : Sighting) → AreSightings ring copies all of_copy
+    → slice_get copies i ≡ Some c → slice_get of_copy i ≡ Some k → slice_get all k ≡ Some seen → is_late ring (past_of copies i) c ≡ nat_le forget_time (c.at - seen.at)
+late_by ring copies all of_copy i k c seen are here number at_k =
+    ap (λ n. not (nat_lt n forget_time)) (after_by ring copies all of_copy i k c seen are here number at_k) ∙ late_same (c.at - seen.at) forget_time
 
 -- the same, by the indexes
 pub begins_at_is : (ring : Ring) (copies : List CaughtFields) (all : List Sighting) (of_copy : List ℕ) (i point : ℕ) (c : CaughtFields) (d : Sighting) → AreSightings ring copies all of_copy

@@ -77,6 +77,10 @@ needed ring past c =
 abbrev pub crowd : Ring → List CaughtFields → CaughtFields → ℕ
 crowd ring past c = if begins_there ring past c then length (filter (λ b. is_recent b c) (begun_at ring (point_of ring c) (c ∷ past))) else 0
 
+-- of these the first in time
+abbrev pub first_crowded : Ring → List CaughtFields → CaughtFields → CaughtFields
+first_crowded ring past c = first_of_past c (filter (λ b. is_recent b c) (begun_at ring (point_of ring c) (c ∷ past)))
+
 -- ---- clashes
 
 -- the latest copy of its source and number said something else, less than 400 ms before: two devices with one address

@@ -7,7 +7,7 @@
 use Rattle.std.specs.Prelude.{ℕ, ◌≡◌, ◌+◌, ◌<◌, ◌^◌, true, if◌then◌else◌, List, [], ◌∷◌, ◌++◌, length, option_to_list, filter, reverse, slice_get, slice_index, Option, Some, None, option_map}
 use Rattle.hsr_frame_groups.specs.Frames.{AreFirst, AreInTime, CaughtFields, first_copy, past_of}
 use Rattle.hsr_previous.specs.declared.previous.Keyed.{Keyed}
-use Rattle.hsr_sightings.specs.Copies.{begins_there, begun_at, crowd, is_overtaken, most_of, needed, top_before}
+use Rattle.hsr_sightings.specs.Copies.{begins_there, begun_at, crowd, first_crowded, is_overtaken, most_of, needed, top_before}
 use Rattle.hsr_sightings.specs.Frames.{frame_of}
 use Rattle.hsr_sightings.specs.Ring.{Ring, goes, is_at, point_of}
 use Rattle.hsr_sightings.specs.Seen.{key_by}
@@ -117,9 +117,20 @@ most_at ring point amount copies = most_in ring point amount (reverse copies)
 abbrev pub AreNeeded : Ring → List CaughtFields → List ℕ → Type 0
 AreNeeded ring copies found = (point n : ℕ) → slice_get found point ≡ Some n → n ≡ most_at ring point (needed ring) copies
 
--- of each point, the most frames that began there in any 400 ms, and the copy that begins the first such
+-- the first copy at a point up to which so many frames began there in 400 ms, and the first of these
+pub record IsFull (ring : Ring) (copies : List CaughtFields) (point : ℕ) (found : Crowd) : Type 0 where
+  pub last : ℕ
+  pub copy : CaughtFields
+  pub there : slice_get copies last ≡ Some copy
+  pub place : point_of ring copy ≡ point
+  pub frames : crowd ring (past_of copies last) copy ≡ found.frames
+  pub sooner : (k : ℕ) (c : CaughtFields) → k < last → slice_get copies k ≡ Some c → point_of ring c ≡ point → crowd ring (past_of copies k) c < found.frames
+  pub first : slice_get copies found.first ≡ Some (first_crowded ring (past_of copies last) copy)
+
+-- of a point, the most frames that began there in any 400 ms, and the copy that begins the first such
 pub record IsCrowd (ring : Ring) (copies : List CaughtFields) (point : ℕ) (found : Crowd) : Type 0 where
   pub frames : found.frames ≡ most_at ring point (crowd ring) copies
+  pub full : 0 < found.frames → IsFull ring copies point found
 
 abbrev pub AreCrowds : Ring → List CaughtFields → List Crowd → Type 0
 AreCrowds ring copies found = (point : ℕ) (own : Crowd) → slice_get found point ≡ Some own → IsCrowd ring copies point own

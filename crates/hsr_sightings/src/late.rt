@@ -6,6 +6,7 @@ ghost use Rattle.hsr_sightings.specs.Crowding.{IsCrowding, IsRecentFrom};
 ghost use Rattle.hsr_sightings.specs.Demand.{at_least, begun_with, needed_with, one_more};
 ghost use Rattle.hsr_sightings.specs.Read.{AreCrowds, AreNeeded, AreSightings, HaveOwnNumbers, IsCrowd, TellsEach};
 ghost use Rattle.hsr_sightings.specs.Ring.{forget_time, is_at};
+ghost use Rattle.hsr_sightings.specs.declared.late.Begun as the_begun;
 ghost use Rattle.hsr_sightings.specs.declared.sighting.Sighting as the_sighting;
 
 use crate::ring::{FORGET_TIME, Ring};
@@ -155,7 +156,9 @@ fn recent_from(things: &[Begun], from: usize, at: u64) -> usize
 /// The greater crowd: that so far, or that of the frames from an index on.
 fn greater(most: Crowd, things: &[Begun], from: usize) -> Crowd
     requires { from < length things.now }
-    ensures { result.frames ≡ max (length things.now - from) most.frames }
+    ensures frames { result.frames ≡ max (length things.now - from) most.frames }
+    ensures kept { length things.now - from ≤ most.frames → result ≡ most }
+    ensures first { most.frames < length things.now - from → (b : the_begun.Begun) → slice_get things.now from ≡ Some b → result.first ≡ b.copy }
 {
     let frames = things.len() - from;
     if frames > most.frames {

@@ -7,7 +7,7 @@ use Rattle.hsr_capture_reader.specs.Fields.{PacketFields}
 use Rattle.hsr_capture_reader.specs.Reading.{Fails as FailsToRead}
 use Rattle.hsr_capture_reader.specs.declared.fault.ReadFault.{ReadFault}
 use Rattle.hsr_capture_reader.specs.declared.fault.ReadFault.TheVariants as read
-use Rattle.hsr_judging_text.specs.Judging.{IsVerdict}
+use Rattle.hsr_judging_text.specs.Judging.{IsNoVerdict, IsVerdict}
 use Rattle.hsr_judging_text.specs.declared.judging.JudgeFault.{JudgeFault}
 use Rattle.hsr_judging_text.specs.declared.judging.JudgeFault.TheVariants as judge
 use Rattle.hsr_judging_text.specs.declared.report.Showing.{Showing}
@@ -18,7 +18,7 @@ use Rattle.hsr_tap_device.specs.declared.fault.DeviceFault.{DeviceFault}
 use Rattle.hsr_tap_device.specs.declared.fault.DeviceFault.TheVariants as device
 use Rattle.hsr_text.specs.Whole.{IsWhole}
 use Rattle.hsr_tap.specs.Fault.{device_fault, judge_fault, read_fault}
-use Rattle.hsr_tap.specs.Judging.{HasReport, IsJudged, IsUnjudged, Reports}
+use Rattle.hsr_tap.specs.Judging.{HasReport, IsJudged, IsUnjudged, IsUnreported, Reports}
 use Rattle.hsr_tap.specs.Tapping.{AreInOrder, IsNoInput}
 use Rattle.hsr_tap.specs.declared.fault.Fault.{Fault}
 use Rattle.hsr_tap.specs.declared.fault.Fault.TheVariants as fault
@@ -42,6 +42,12 @@ pub has_report : (given : DeviceFields) (showing : Showing) (capture : CaptureFi
     → IsVerdict given capture.interfaces packets capture.end showing [] text conforms → HasReport given showing capture text conforms
 has_report given showing capture packets text conforms in_order is = record { packets = packets; in_order = in_order; is_verdict = is }
 
+pub unreported : (given : DeviceFields) (capture : CaptureFields) (packets : List PacketFields) (e : JudgeFault) → AreInOrder capture.packets packets
+    → IsNoVerdict given capture.interfaces packets capture.end e → IsUnreported given capture e
+unreported given capture packets (judge.Passages e) in_order h = record { packets = packets; in_order = in_order; is_no_verdict = h }
+unreported given capture packets judge.Table in_order h = record { packets = packets; in_order = in_order; is_no_verdict = h }
+unreported given capture packets judge.NoMemory in_order h = tt
+
 pub is_judged : (document : List ℕ) (given : DeviceFields) (showing : Showing) (capture : CaptureFields) (fcs : ℕ) (octets text : List ℕ) (conforms : Bool) → device_of document ≡ Ok given
     → capture_of fcs octets ≡ Ok capture → HasReport given showing capture text conforms → IsJudged document showing fcs octets text conforms
 is_judged document given showing capture fcs octets text conforms is read has = record { device = given; capture = capture; is_device = is; is_capture = read; has_report = has }
@@ -52,10 +58,10 @@ no_capture document given fcs octets (read.Refused refusal) is h = record { devi
 no_capture document given fcs octets read.NoMemory is h = tt
 
 pub no_report : (document : List ℕ) (given : DeviceFields) (capture : CaptureFields) (fcs : ℕ) (octets : List ℕ) (e : JudgeFault) → device_of document ≡ Ok given
-    → capture_of fcs octets ≡ Ok capture → IsUnjudged document fcs octets (judge_fault e)
-no_report document given capture fcs octets (judge.Passages e) is read = record { device = given; capture = capture; is_device = is; is_capture = read }
-no_report document given capture fcs octets judge.Table is read = record { device = given; capture = capture; is_device = is; is_capture = read }
-no_report document given capture fcs octets judge.NoMemory is read = tt
+    → capture_of fcs octets ≡ Ok capture → IsUnreported given capture e → IsUnjudged document fcs octets (judge_fault e)
+no_report document given capture fcs octets (judge.Passages e) is read h = record { device = given; capture = capture; is_device = is; is_capture = read; has_no_verdict = h }
+no_report document given capture fcs octets judge.Table is read h = record { device = given; capture = capture; is_device = is; is_capture = read; has_no_verdict = h }
+no_report document given capture fcs octets judge.NoMemory is read h = tt
 
 -- ---- of a capture that is too large a front tells it too
 
@@ -67,7 +73,8 @@ judged_whole document showing fcs all read text conforms same h =
 unjudged_whole : (document : List ℕ) (fcs : ℕ) (all read : List ℕ) (e : Fault) → capture_of fcs all ≡ capture_of fcs read → IsUnjudged document fcs read e → IsUnjudged document fcs all e
 unjudged_whole document fcs all read (fault.Device e) same h = h
 unjudged_whole document fcs all read (fault.Capture e) same h = record { device = h.device; is_device = h.is_device; is_refused = same ∙ h.is_refused }
-unjudged_whole document fcs all read (fault.Judge e) same h = record { device = h.device; capture = h.capture; is_device = h.is_device; is_capture = same ∙ h.is_capture }
+unjudged_whole document fcs all read (fault.Judge e) same h =
+    record { device = h.device; capture = h.capture; is_device = h.is_device; is_capture = same ∙ h.is_capture; has_no_verdict = h.has_no_verdict }
 unjudged_whole document fcs all read (fault.Lines e) same h = h
 unjudged_whole document fcs all read (fault.Stimuli e) same h = h
 unjudged_whole document fcs all read fault.Sources same h = h

@@ -11,7 +11,7 @@ use Rattle.hsr_capture_reader.specs.Capture.{CaptureFields, capture_of}
 use Rattle.hsr_capture_reader.specs.declared.fault.Refusal.{Refusal}
 use Rattle.hsr_expected.specs.Expected.{expected_in}
 use Rattle.hsr_health.specs.Whole.{HasTooMany, IsHealth}
-use Rattle.hsr_health.specs.declared.health.Asked.{Asked}
+use Rattle.hsr_health.specs.declared.asked.Asked.{Asked}
 use Rattle.hsr_health.specs.declared.health.Health.{Health}
 use Rattle.hsr_health_text.specs.Report.{report_text}
 use Rattle.hsr_taps.specs.Asked.{ChoiceFields, PointFields}

@@ -7,7 +7,9 @@ use Rattle.std.specs.Io.KnownBytes.{Appends, Keeps}
 use Rattle.hsr_capture_reader.specs.Capture.{CaptureFields, capture_of}
 use Rattle.hsr_capture_reader.specs.Fields.{PacketFields}
 use Rattle.hsr_capture_reader.specs.declared.fault.Refusal.{Refusal}
-use Rattle.hsr_judging_text.specs.Judging.{IsVerdict}
+use Rattle.hsr_judging_text.specs.Judging.{IsNoVerdict, IsVerdict}
+use Rattle.hsr_judging_text.specs.declared.judging.JudgeFault.{JudgeFault}
+use Rattle.hsr_judging_text.specs.declared.judging.JudgeFault.TheVariants as unjudged
 use Rattle.hsr_judging_text.specs.declared.report.Showing.{Showing}
 use Rattle.hsr_tap_device.specs.Device.{DeviceFields}
 use Rattle.hsr_tap_device.specs.Reading.{device_of}
@@ -37,19 +39,26 @@ pub record IsUncaught (document : List ℕ) (fcs : ℕ) (octets : List ℕ) (ref
   pub is_device : device_of document ≡ Ok device
   pub is_refused : capture_of fcs octets ≡ Err refusal
 
--- a document describes a device, and octets are a capture
-pub record AreRead (document : List ℕ) (fcs : ℕ) (octets : List ℕ) : Type 0 where
+-- a device, by the packets of a capture in the order of time, has no verdict, for this reason
+pub record HasNoVerdict (device : DeviceFields) (capture : CaptureFields) (fault : JudgeFault) : Type 0 where
+  pub packets : List PacketFields
+  pub in_order : AreInOrder capture.packets packets
+  pub is_no_verdict : IsNoVerdict device capture.interfaces packets capture.end fault
+
+-- a document describes a device, and octets are a capture, by which it has no verdict, for this reason
+pub record IsUnfit (document : List ℕ) (fcs : ℕ) (octets : List ℕ) (fault : JudgeFault) : Type 0 where
   pub device : DeviceFields
   pub capture : CaptureFields
   pub is_device : device_of document ≡ Ok device
   pub is_capture : capture_of fcs octets ≡ Ok capture
+  pub has_no_verdict : HasNoVerdict device capture fault
 
--- The first of these: the document describes no device, the octets are no capture, the capture doesn't fit the device. A reader may fail,
--- and room may be refused, at any time.
+-- The first of these: the document describes no device, the octets are no capture, the capture doesn't fit the device, there are no tables
+-- of as many entries as the device has. A reader may fail, and room may be refused, at any time.
 abbrev pub IsUnjudged : List ℕ → ℕ → List ℕ → Fault → Type 0
 IsUnjudged document fcs octets (Device fault) = device_of document ≡ Err fault
 IsUnjudged document fcs octets (Capture refusal) = IsUncaught document fcs octets refusal
-IsUnjudged document fcs octets (Judge fault) = AreRead document fcs octets
+IsUnjudged document fcs octets (Judge fault) = IsUnfit document fcs octets fault
 IsUnjudged document fcs octets Read = ⊤
 IsUnjudged document fcs octets Memory = ⊤
 IsUnjudged document fcs octets fault = ⊥
@@ -64,3 +73,10 @@ pub record Judges (document : List ℕ) (showing : Showing) (fcs : ℕ) (octets 
   pub ended : Result Bool Fault
   pub reports : Reports document showing fcs octets held holds ended
   pub is_told : TellsVerdict told tells ended code
+
+-- ---- parts of it
+
+-- room may be refused
+abbrev pub IsUnreported : DeviceFields → CaptureFields → JudgeFault → Type 0
+IsUnreported device capture unjudged.NoMemory = ⊤
+IsUnreported device capture fault = HasNoVerdict device capture fault

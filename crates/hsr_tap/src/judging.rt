@@ -2,7 +2,7 @@
 ghost use Rattle.std.specs.Prelude.{◌≡◌, ℕ, List, Ok, Err, IfErr, IfOk, IfSome};
 ghost use Rattle.hsr_capture_reader.specs.Capture.{capture_of};
 ghost use Rattle.hsr_tap_device.specs.Reading.{device_of};
-ghost use Rattle.hsr_tap.specs.Judging.{HasReport, IsJudged, IsUnjudged, Judges, Reports};
+ghost use Rattle.hsr_tap.specs.Judging.{HasReport, IsJudged, IsUnjudged, IsUnreported, Judges, Reports};
 
 use crate::fault::Fault;
 use crate::reporting::{Report, report_to, tell_verdict};
@@ -23,14 +23,15 @@ fn described(alloc: Global, document: &str) -> Result<Device, Fault>
 }
 
 /// The report on a device by a capture.
-#[tactic(auto, using(crate::proofs::Judged::has_report))]
+#[tactic(auto, using(crate::proofs::Judged::has_report, crate::proofs::Judged::unreported))]
 fn report_by(
     alloc: Global,
     device: &Device,
     showing: Showing,
     capture: Capture<'_>,
 ) -> Result<Report, JudgeFault>
-    ensures { IfOk result (λ report. HasReport device.now showing capture.entry report.text.items report.is_well) }
+    ensures reported { IfOk result (λ report. HasReport device.now showing capture.entry report.text.items report.is_well) }
+    ensures unreported { IfErr result (λ fault. IsUnreported device.now capture.entry fault) }
 {
     let Capture {
         interfaces,

@@ -3,13 +3,13 @@ use Rattle.std.specs.Prelude.{option_to_list}
 use Rattle.hsr_health.proofs.copy_reasons.copy_reasons.Goals as goal
 
 pub returns : goal.returns
-returns c = λ ring is_by_lane carried marks over.
-    let storm = c.in_ok-put_marked.ensures ring is_by_lane carried marks in
-    let again = c.in_ok-put_marked-2.ensures ring is_by_lane carried marks in
-    let clash = c.in_ok-put_marked-3.ensures ring is_by_lane carried marks in
-    let late = c.in_ok-put_marked-4.ensures ring is_by_lane carried marks in
-    let size = c.in_ok-put_marked-5.ensures ring is_by_lane carried marks in
-    let lane = c.in_ok-put_marked-6.ensures ring is_by_lane carried marks in
+returns c = λ ring is_by_lane carried marks seen over.
+    let storm = c.in_ok-put_marked.ensures ring is_by_lane carried marks seen in
+    let again = c.in_ok-put_marked-2.ensures ring is_by_lane carried marks seen in
+    let clash = c.in_ok-put_marked-3.ensures ring is_by_lane carried marks seen in
+    let late = c.in_ok-put_marked-4.ensures ring is_by_lane carried marks seen in
+    let size = c.in_ok-put_marked-5.ensures ring is_by_lane carried marks seen in
+    let lane = c.in_ok-put_marked-6.ensures ring is_by_lane carried marks seen in
     record {
       storm = storm.reason;
       again = again.reason;

@@ -1,5 +1,5 @@
 use Rattle.std.proofs.Common.{◌∙◌, subst}
-use Rattle.hsr_health.specs.Spreads.{AreSpreads}
+use Rattle.hsr_spread.specs.Spreads.{AreSpreads}
 use Rattle.hsr_health.proofs.counts.skews_of.Goals as goal
 
 pub returns-clause-spreads : goal.returns-clause-spreads

@@ -1,7 +1,7 @@
 use Rattle.std.proofs.Common.{◌≡◌, arith, false, rules, sym, true}
 use Rattle.hsr_frame.specs.Address.{is_same_address}
 use Rattle.hsr_health.proofs.Finding.{find_here, find_none_more}
-use Rattle.hsr_health.specs.declared.abouts.About.{About}
+use Rattle.hsr_heard.specs.declared.abouts.About.{About}
 use Rattle.hsr_health.proofs.ledger.about_of.Goals as goal
 
 pub returns-then-eq : goal.returns-then-eq

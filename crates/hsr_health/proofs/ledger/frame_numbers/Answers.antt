@@ -4,7 +4,7 @@ use Rattle.hsr_frame_groups.specs.Frames.{past_of}
 use Rattle.hsr_health.specs.Counted.{mark_of}
 use Rattle.hsr_health.specs.Numbering.{numbered_at}
 use Rattle.hsr_health.proofs.Gapping.{number_is, one_more_at_most}
-use Rattle.hsr_health.proofs.Telling.{those_end, those_more}
+use Rattle.hsr_heard.proofs.Telling.{those_end, those_more}
 use Rattle.hsr_health.proofs.ledger.frame_numbers.Goals as goal
 
 pub loop-i-preserved : goal.loop-i-preserved

@@ -1,6 +1,6 @@
 use Rattle.std.proofs.Common.{◌≡◌, ℕ, ◌≤◌, ◌++◌, Bool, length, drop}
 use Rattle.hsr_health.specs.Counted.{mark_of}
-use Rattle.hsr_health.specs.Hearing.{those_from, those_of}
+use Rattle.hsr_heard.specs.Hearing.{those_from, those_of}
 use Rattle.hsr_health.specs.Numbering.{numbered_at}
 use Rattle.hsr_sightings.specs.Read.{TellsEach}
 use Rattle.hsr_sightings.specs.Ring.{Ring}

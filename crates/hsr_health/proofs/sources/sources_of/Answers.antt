@@ -34,3 +34,11 @@ returns-clause-some c =
     = subst (AreThere c.as_slice-4.result.now) (sym c.as_slice-5.ensures.value) (subst (λ l. AreThere l macs) (sym same) are.there) in
     sources_are c.args.copies.now numbers macs indexes c.in_ok-numbers.ensures.addresses c.in_ok-numbers.ensures.numbers are
     (subst (λ l. AreIndexes l macs indexes) same (subst (λ l. AreIndexes c.as_slice-4.result.now l indexes) c.as_slice-5.ensures.value (c.in_ok-of_copy.ensures rise there)))
+
+pub returns-clause-few : goal.returns-clause-few
+returns-clause-few c =
+    let counts = c.in_ok-counts.counts.items in
+    let few : length counts ≤ 1024
+    = ltb-false 1024 (length counts) (ap (λ l. nat_lt 1024 (length l)) (sym c.as_slice-2.ensures.value) ∙ sym c.is_over.ensures ∙ c.if-is_over.false) in
+    let long : length c.in_ok-macs.macs.items ≡ length counts = ap length (c.in_ok-macs.ensures ∙ ap (map mac_by) c.as_slice-3.ensures.value) ∙ length-map counts mac_by in
+    omega (arith, few, long)

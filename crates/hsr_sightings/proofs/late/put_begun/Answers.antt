@@ -1,4 +1,5 @@
-use Rattle.std.proofs.Common.{◌≡◌, ◌-◌, ◌∙◌, true, false, ap, arith, length, max, refl, rules, subst, sym}
+use Rattle.std.proofs.Common.{◌≡◌, ◌-◌, ◌<◌, ◌≤◌, ◌∙◌, Some, true, false, ap, arith, length, max, refl, rules, subst, sym}
+use Rattle.std.specs.Prelude.{slice_get}
 use Rattle.std.proofs.lemmas.Option.{slice_get_read}
 use Rattle.hsr_sightings.specs.Crowding.{IsRecentFrom}
 use Rattle.hsr_sightings.specs.declared.late.Begun.{Begun}
@@ -32,5 +33,7 @@ returns c = λ ring point is begins_is.
     let here = slice_get_read copies _ c.args.i x refl c.requires.below c.index-copies-i.is in
     let begins : c.args.begins ≡ true = search rules in
     let recent = subst (λ n. IsRecentFrom new from n found) at (subst (λ l. IsRecentFrom l from c.caught.inside.at found) c.as_slice.ensures.value c.recent_from-crowding.ensures) in
-    more_crowding ring copies point c.args.i x things new own from found most c.greater-crowding.result c.requires.time here (sym (begins_is x here) ∙ begins) is at c.in_ok-push.ensures.items recent
-    (c.greater-crowding.ensures ∙ ap (λ l. max (length l - found) most.frames) c.as_slice-2.ensures.value)
+    more_crowding ring copies point c.args.i x things new own from found most c.greater-crowding.result c.requires.time here (sym (begins_is x here) ∙ begins) is at refl c.in_ok-push.ensures.items recent
+    (c.greater-crowding.ensures.frames ∙ ap (λ l. max (length l - found) most.frames) c.as_slice-2.ensures.value)
+    (subst (λ l. length l - found ≤ most.frames → c.greater-crowding.result ≡ most) c.as_slice-2.ensures.value c.greater-crowding.ensures.kept)
+    (subst (λ l. most.frames < length l - found → (b : Begun) → slice_get l found ≡ Some b → c.greater-crowding.result.first ≡ b.copy) c.as_slice-2.ensures.value c.greater-crowding.ensures.first)

@@ -1,0 +1,32 @@
+use Rattle.std.proofs.Common.{◌∙◌, ap, map, reverse, subst, sym}
+use Rattle.std.specs.List.{range_with_len}
+use Rattle.std.specs.Prelude.{filter}
+use Rattle.hsr_health.specs.Kinds.{AreMalformed, AreUntagged, AreVlans}
+use Rattle.hsr_health.specs.Order.{in_order}
+use Rattle.hsr_health.specs.Told.{is_absent}
+use Rattle.hsr_health.specs.Whole.{AreFacts, AreFindings, is_asked}
+use Rattle.hsr_health.proofs.Composed.{reasons_same}
+use Rattle.hsr_health.proofs.settled.settled_of.Goals as goal
+
+pub returns : goal.returns
+returns c = λ taps many found.
+    let ring = c.args.ring.now in
+    let asked = c.args.asked.now in
+    let expected = c.args.expected.now in
+    let findings = c.args.findings.now in
+    let copies = c.as_slice-copies.ensures.value in
+    let strays = c.as_slice-strays.ensures.value in
+    record {
+      absent = c.in_ok-absent.ensures ∙ ap (λ l. filter (is_absent l c.as_slice.result.now) expected) c.as_slice-macs.ensures.value
+          ∙ ap (λ l. filter (is_absent findings.sources.macs.items l) expected) c.as_slice.ensures.value;
+      told = c.in_ok-told.told.items;
+      facts = c.facts_of.result;
+      are_told = reasons_same ring taps _ _ many findings _ _ _ _ _ _ _ _ asked.table c.in_ok-told.told.items copies c.losses_of-losses.ensures
+          (c.as_slice-2.ensures.value ∙ c.in_ok-is_asked.ensures ∙ ap (λ n. map (is_asked asked.choice) (range_with_len 0 n)) c.interfaces_of.ensures) c.as_slice-3.ensures.value strays
+          (c.in_ok-told.ensures taps many (subst (λ l. AreFindings ring l taps many findings) (sym copies) found));
+      are_facts = subst (λ l. AreFacts l findings c.facts_of.result) copies c.facts_of.ensures;
+      reasons = c.in_ok-reasons.ensures ∙ ap (in_order c.facts_of.result) c.as_slice-4.ensures.value;
+      vlans = subst (λ l. AreVlans (reverse l) c.in_ok-vlans.vlans.items) copies c.in_ok-vlans.ensures;
+      untagged = subst (λ l. AreUntagged l c.in_ok-untagged.untagged.items) strays c.in_ok-untagged.ensures;
+      malformed = subst (λ l. AreMalformed l c.in_ok-malformed.malformed.items) strays c.in_ok-malformed.ensures;
+    }

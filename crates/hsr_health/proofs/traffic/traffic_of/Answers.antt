@@ -1,0 +1,42 @@
+use Rattle.std.proofs.Common.{◌∙◌, ap, arith, length, subst, sym}
+use Rattle.std.proofs.lemmas.List.Sorted.{length_permutation}
+use Rattle.hsr_capture_reader.specs.Capture.{CaptureFields}
+use Rattle.hsr_packet_order.specs.Disorder.{disorder_of}
+use Rattle.hsr_taps.specs.Came.{AreInOrder, ArePackets, IsTapped}
+use Rattle.hsr_health.specs.Loads.{AreLoads}
+use Rattle.hsr_health.specs.Whole.{IsInTime}
+use Rattle.hsr_health.proofs.Capturing.{in_order_from, own_numbers_from}
+use Rattle.hsr_health.proofs.traffic.traffic_of.Goals as goal
+
+pub tap-requires-clause-packets : goal.tap-requires-clause-packets
+tap-requires-clause-packets c =
+    let in_time = subst (λ l. IsInTime l c.in_ok-sorted.sorted.items) (ap (λ (x : CaptureFields). x.packets) c.capture.view_is) c.in_ok-sorted.ensures in
+    omega (arith, ap length c.as_slice-in_order.ensures.value, length_permutation _ _ in_time.same, c.requires.packets)
+
+pub tap-requires-clause-numbers : goal.tap-requires-clause-numbers
+tap-requires-clause-numbers c =
+    let in_time = subst (λ l. IsInTime l c.in_ok-sorted.sorted.items) (ap (λ (x : CaptureFields). x.packets) c.capture.view_is) c.in_ok-sorted.ensures in
+    subst ArePackets (sym c.as_slice-in_order.ensures.value) (own_numbers_from c.args.capture.packets c.in_ok-sorted.sorted.items in_time.same c.requires.numbers)
+
+pub tap-requires-clause-time : goal.tap-requires-clause-time
+tap-requires-clause-time c = subst AreInOrder (sym c.as_slice-in_order.ensures.value) (in_order_from c.in_ok-sorted.sorted.items c.in_ok-sorted.ensures.sorted)
+
+pub loads_of-requires : goal.loads_of-requires
+loads_of-requires c = subst AreInOrder (sym c.as_slice-in_order.ensures.value) (in_order_from c.in_ok-sorted.sorted.items c.in_ok-sorted.ensures.sorted)
+
+pub returns : goal.returns
+returns c =
+    let choice = c.args.choice.now in
+    let sorted = c.in_ok-sorted.sorted.items in
+    let tapped = c.in_ok-tapped.tapped in
+    let loads = c.in_ok-loads.loads.items in
+    record {
+      packets = subst (λ l. IsInTime l sorted) (ap (λ (x : CaptureFields). x.packets) c.capture.view_is) c.in_ok-sorted.ensures;
+      same = ap (λ (x : CaptureFields). record x { packets = sorted }) c.capture.view_is;
+      disorder = c.disorder_of-disorder.ensures ∙ ap disorder_of (c.as_slice.ensures.value ∙ ap (λ (x : CaptureFields). x.packets) c.capture.view_is);
+      looked = c.in_ok-tapped.ensures.0;
+      tapped = subst (λ l. IsTapped choice l sorted c.in_ok-tapped.ensures.0 tapped) (c.as_slice-by_number.ensures.value ∙ ap (λ (x : CaptureFields). x.interfaces) c.capture.view_is)
+          (subst (λ l. IsTapped choice c.as_slice-by_number.result.now l c.in_ok-tapped.ensures.0 tapped) c.as_slice-in_order.ensures.value c.in_ok-tapped.ensures.1);
+      loads = subst (λ l. AreLoads l sorted loads) (c.as_slice-2.ensures.value ∙ c.in_ok-looked.ensures)
+          (subst (λ l. AreLoads c.as_slice-2.result.now l loads) c.as_slice-in_order.ensures.value c.in_ok-loads.ensures.loads);
+    }

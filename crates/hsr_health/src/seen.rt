@@ -1,0 +1,82 @@
+//! What copies tell of one another.
+ghost use Rattle.std.specs.Prelude.{◌≡◌, map, slice_get, IfOk};
+ghost use Rattle.std.specs.List.{range_with_len};
+ghost use Rattle.hsr_health.specs.Whole.{AreCaught, IsSeen, is_lane};
+ghost use Rattle.hsr_taps.specs.Directions.{interface_of};
+
+use crate::counts::{Marks, marks_of};
+use hsr_frame::NoMemory;
+use hsr_frame_groups::{Caught, frames_of};
+use hsr_sightings::{
+    Overtaken, Ring, Sightings, begins_of, carried_of, clashes_of, lates_of, overtaken_of,
+    sightings_of,
+};
+use hsr_taps::{DIRECTIONS, Taps, interface_of};
+use std::alloc::Global;
+
+/// Whether the copies of a direction are told apart by lane.
+fn is_lane(taps: &[Taps], direction: usize) -> bool
+    ensures { result ≡ is_lane (slice_get taps.now (interface_of direction)) }
+{
+    match taps.get(interface_of(direction)) {
+        Some(Taps::Both) => true,
+        _ => false,
+    }
+}
+
+/// Of each direction whether its copies are told apart by lane.
+fn by_lane(alloc: Global, taps: &[Taps]) -> Result<Vec<bool>, NoMemory>
+    ensures { IfOk result (λ lanes. lanes.items ≡ map (λ d. is_lane (slice_get taps.now (interface_of d))) (range_with_len 0 320)) }
+{
+    let mut lanes = Vec::new(alloc);
+    for d in 0..DIRECTIONS {
+        lanes.push(is_lane(taps, d))?;
+    }
+    Ok(lanes)
+}
+
+/// What the copies tell of one another.
+#[derive(Drop)]
+pub(crate) struct Seen {
+    pub(crate) began: Vec<bool>,
+    pub(crate) carried: Vec<u32>,
+    pub(crate) sightings: Sightings,
+    pub(crate) overtaken: Vec<Overtaken>,
+    pub(crate) marks: Vec<Marks>,
+}
+
+/// What the copies of a capture tell of one another.
+pub(crate) fn seen_of(
+    alloc: Global,
+    ring: &Ring<'_>,
+    copies: &[Caught<'_>],
+    taps: &[Taps],
+) -> Result<Seen, NoMemory>
+    requires { AreCaught ring.now copies.now }
+    ensures { IfOk result (λ seen. IsSeen ring.now copies.now taps.now seen) }
+{
+    let frames = frames_of(alloc, copies)?;
+    let firsts = frames.as_slice();
+    let carried = carried_of(alloc, copies, firsts)?;
+    let before = carried.as_slice();
+    let sightings = sightings_of(alloc, ring, copies, firsts, before)?;
+    let began = begins_of(alloc, copies, firsts)?;
+    let clashes = clashes_of(alloc, copies, firsts)?;
+    let all = sightings.all.as_slice();
+    let numbers = sightings.of_copy.as_slice();
+    let lates = lates_of(alloc, copies, all, numbers)?;
+    let overtaken = overtaken_of(alloc, copies, firsts, before)?;
+    let lanes = by_lane(alloc, taps)?;
+    let begun = began.as_slice();
+    let differs = clashes.as_slice();
+    let is_late = lates.as_slice();
+    let is_by_lane = lanes.as_slice();
+    let marks = marks_of(alloc, ring, copies, begun, differs, is_late, is_by_lane)?;
+    Ok(Seen {
+        began,
+        carried,
+        sightings,
+        overtaken,
+        marks,
+    })
+}

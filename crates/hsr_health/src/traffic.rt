@@ -1,0 +1,124 @@
+//! What came by the taps of a capture, and when.
+ghost use Rattle.std.specs.Prelude.{◌≡◌, ◌-◌, is_some, length, map, slice_get, IfOk};
+ghost use Rattle.hsr_health.specs.Whole.{IsBounded, IsInTime, IsTraffic, end_by, moment_or};
+
+use crate::load::{Load, loads_of};
+use hsr_capture_reader::{Capture, Losses, Packet};
+use hsr_frame::NoMemory;
+use hsr_packet_order::{Disorder, disorder_of, sort_by_time};
+use hsr_taps::{Choice, Tapped, tap};
+use std::alloc::Global;
+
+/// The moment of the first of packets.
+fn first_moment(packets: &[Packet<'_>]) -> u64
+    ensures { result ≡ moment_or (slice_get packets.now 0) }
+{
+    match packets.get(0) {
+        Some(first) => first.moment,
+        None => 0,
+    }
+}
+
+/// The moment of the last of packets, or a later end.
+fn last_moment(packets: &[Packet<'_>], end: u64) -> u64
+    ensures { result ≡ end_by end (slice_get packets.now (length packets.now - 1)) }
+{
+    match packets.get(packets.len().saturating_sub(1)) {
+        Some(last) => last.moment.max(end),
+        None => 0,
+    }
+}
+
+/// The first packet's moment.
+pub(crate) fn start_of(capture: &Capture<'_>) -> u64
+    ensures { result ≡ moment_or (slice_get capture.now.packets 0) }
+{
+    first_moment(capture.packets.as_slice())
+}
+
+/// The end: the moment of the last packet, or a later one that the file says.
+pub(crate) fn end_of(capture: &Capture<'_>) -> u64
+    ensures { result ≡ end_by capture.now.end (slice_get capture.now.packets (length capture.now.packets - 1)) }
+{
+    last_moment(capture.packets.as_slice(), capture.end)
+}
+
+/// How many interfaces a capture has.
+pub(crate) fn interfaces_of(capture: &Capture<'_>) -> usize
+    ensures { result ≡ length capture.now.interfaces }
+{
+    capture.interfaces.len()
+}
+
+/// What a capture lost at each interface.
+pub(crate) fn losses_of<'b>(capture: &'b Capture<'_>) -> &'b [Losses]
+    ensures { result.now ≡ capture.now.losses }
+{
+    capture.losses.as_slice()
+}
+
+/// Of each interface whether it is looked at.
+fn looked_at(alloc: Global, tapped: &Tapped<'_>) -> Result<Vec<bool>, NoMemory>
+    ensures { IfOk result (λ looked. looked.items ≡ map is_some tapped.now.tallies.items) }
+{
+    let mut looked = Vec::new(alloc);
+    for tally in &tapped.tallies {
+        looked.push(tally.is_some())?;
+    }
+    Ok(looked)
+}
+
+/// Packets in the order of time; those of one moment stay as they stood.
+fn in_time<'a>(packets: Vec<Packet<'a>>) -> Result<Vec<Packet<'a>>, NoMemory>
+    ensures { IfOk result (λ after. IsInTime packets.entry.items after.items) }
+{
+    let mut packets = packets;
+    sort_by_time(&mut packets)?;
+    Ok(packets)
+}
+
+/// A capture whose packets are in the order of time, how far the file was out of it, and what came by its taps.
+#[derive(Drop)]
+pub(crate) struct Traffic<'a> {
+    pub(crate) capture: Capture<'a>,
+    pub(crate) disorder: Disorder,
+    pub(crate) tapped: Tapped<'a>,
+    pub(crate) loads: Vec<Load>,
+}
+
+/// What came by the taps of a capture.
+pub(crate) fn traffic_of<'a>(
+    alloc: Global,
+    capture: Capture<'a>,
+    choice: &Choice<'a>,
+) -> Result<Traffic<'a>, NoMemory>
+    requires { IsBounded capture }
+    ensures { IfOk result (λ traffic. IsTraffic choice.now capture.entry traffic) }
+{
+    let Capture {
+        interfaces,
+        losses,
+        packets,
+        end,
+        is_short,
+    } = capture;
+    let disorder = disorder_of(packets.as_slice());
+    let sorted = in_time(packets)?;
+    let by_number = interfaces.as_slice();
+    let in_order = sorted.as_slice();
+    let tapped = tap(alloc, by_number, in_order, choice)?;
+    let looked = looked_at(alloc, &tapped)?;
+    let loads = loads_of(alloc, in_order, looked.as_slice())?;
+    Ok(Traffic {
+        capture: Capture {
+            interfaces,
+            losses,
+            packets: sorted,
+            end,
+            is_short,
+        },
+        disorder,
+        tapped,
+        loads,
+    })
+}
