@@ -43,7 +43,7 @@ pub caught_of : (choice : ChoiceFields) (capture : CaptureFields) (traffic : Tra
     → AreCaught (ring_in traffic is_whole) traffic.tapped.copies.items
 caught_of choice capture traffic is_whole bounds is = record {
   time = is.tapped.time;
-  few = let same = length_permutation _ _ is.packets.same in omega (arith, is.tapped.few, same, bounds.packets);
+  few = let same = length_permutation _ _ is.in_time.same in omega (arith, is.tapped.few, same, bounds.packets);
   numbers = is.tapped.numbers;
   directions = is.tapped.directions;
   places = point_below traffic.tapped.point_of.items is.tapped.places;
@@ -86,18 +86,15 @@ strays_below looked taps (p ∷ packets) i s here = by_first looked taps p (stra
 
 pub interfaces_of : (choice : ChoiceFields) (capture : CaptureFields) (traffic : Traffic) → IsBounded capture → IsTraffic choice capture traffic → HaveInterfaces traffic.tapped.strays.items
 interfaces_of choice capture traffic bounds is i s here =
-    let below = strays_below is.looked traffic.tapped.taps.items traffic.capture.packets i s (ap (λ l. slice_get l i) (sym is.tapped.strays) ∙ here) in
+    let below = strays_below is.looked traffic.tapped.taps.items is.packets i s (ap (λ l. slice_get l i) (sym is.tapped.strays) ∙ here) in
     let few = few_looked choice capture.interfaces is.looked is.tapped.looks in
     omega (arith, below, few, bounds.interfaces)
 
-pub ring_is : (traffic : Traffic) (is_whole : Bool) (start end : ℕ) (points ways : List ℕ) → start ≡ (ring_in traffic is_whole).start → end ≡ (ring_in traffic is_whole).end
-    → points ≡ traffic.tapped.point_of.items → ways ≡ traffic.tapped.way_of.items
-    → ◌≡◌ {A = Ring} (record { start = start; end = end; is_whole = is_whole; points = points; ways = ways }) (ring_in traffic is_whole)
-ring_is traffic is_whole start end points ways s e p w =
-    ap (λ (x : ℕ). record { start = x; end = end; is_whole = is_whole; points = points; ways = ways }) s
-    ∙ ap (λ (x : ℕ). record { start = (ring_in traffic is_whole).start; end = x; is_whole = is_whole; points = points; ways = ways }) e
-    ∙ ap (λ (x : List ℕ). record { start = (ring_in traffic is_whole).start; end = (ring_in traffic is_whole).end; is_whole = is_whole; points = x; ways = ways }) p
-    ∙ ap (λ (x : List ℕ). record { start = (ring_in traffic is_whole).start; end = (ring_in traffic is_whole).end; is_whole = is_whole; points = traffic.tapped.point_of.items; ways = x }) w
+pub ring_is : (traffic : Traffic) (is_whole : Bool) (points ways : List ℕ) → points ≡ traffic.tapped.point_of.items → ways ≡ traffic.tapped.way_of.items
+    → ◌≡◌ {A = Ring} (record { start = traffic.outline.start; end = traffic.outline.end; is_whole = is_whole; points = points; ways = ways }) (ring_in traffic is_whole)
+ring_is traffic is_whole points ways p w =
+    ap (λ (x : List ℕ). record { start = traffic.outline.start; end = traffic.outline.end; is_whole = is_whole; points = x; ways = ways }) p
+    ∙ ap (λ (x : List ℕ). record { start = traffic.outline.start; end = traffic.outline.end; is_whole = is_whole; points = traffic.tapped.point_of.items; ways = x }) w
 
 pub findings_same : (ring ring' : Ring) (copies copies' : List CaughtFields) (taps taps' : List Taps) (many many' : ℕ) (findings : Findings) → ring ≡ ring' → copies ≡ copies' → taps ≡ taps' → many ≡ many'
     → AreFindings ring copies taps many findings → AreFindings ring' copies' taps' many' findings

@@ -1,6 +1,6 @@
 -- Runs of group frames that came one way alone at a point, by their first copies: the ring is open between the sources that came by the
 -- one way and those that came by the other.
-use Rattle.std.specs.Prelude.{ℕ, ◌≡◌, ◌+◌, ◌-◌, ◌==◌, ◌&&◌, ◌||◌, not, Bool, true, false, if◌then◌else◌, List, [], ◌∷◌, ◌++◌, length, filter, map, replicate, reverse, slice_get, slice_index, Option, Some, None, is_some, option_map, unwrap_or}
+use Rattle.std.specs.Prelude.{ℕ, ◌≡◌, ◌-◌, ◌==◌, ◌&&◌, ◌||◌, Bool, true, false, if◌then◌else◌, List, [], ◌∷◌, ◌++◌, length, filter, map, replicate, reverse, slice_get, slice_index, Some, option_map, unwrap_or}
 use Rattle.std.specs.List.{AllZip, flat_map, list_any, range_with_len}
 use Rattle.hsr_frame.specs.Address.{is_among, is_group, is_same_address}
 use Rattle.hsr_frame_groups.specs.Frames.{CaughtFields}

@@ -10,7 +10,7 @@ use Rattle.hsr_frame_groups.specs.Frames.{CaughtFields, past_of}
 use Rattle.hsr_sightings.specs.Copies.{carried_before, count_copies, first_such, is_again, is_clash, is_late, is_overtaken, most_of, needed as needed_by}
 use Rattle.hsr_sightings.specs.Frames.{begins}
 use Rattle.hsr_sightings.specs.Read.{most_at}
-use Rattle.hsr_sightings.specs.Ring.{Ring, is_in, point_of, way_of}
+use Rattle.hsr_sightings.specs.Ring.{Ring, is_in, way_of}
 use Rattle.hsr_sightings.specs.declared.sighting.Fate.{Fate}
 use Rattle.hsr_sightings.specs.declared.sighting.Fate.TheVariants as the_fate
 use Rattle.hsr_sightings.specs.declared.sighting.Sighting as the_sighting

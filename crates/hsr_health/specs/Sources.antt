@@ -1,5 +1,5 @@
 -- Who sent frames: addresses as numbers.
-use Rattle.std.specs.Prelude.{ℕ, ◌≡◌, ◌+◌, ◌*◌, ◌/◌, ◌%◌, ◌<◌, ◌≤◌, if◌then◌else◌, List, [], ◌∷◌, length, slice_get, slice_index, Contains, Option, Some, None}
+use Rattle.std.specs.Prelude.{ℕ, ◌≡◌, ◌<◌, ◌≤◌, if◌then◌else◌, List, length, slice_get, Contains, Option, Some, None}
 use Rattle.hsr_address.specs.Numbers.{address_of, number_of}
 use Rattle.hsr_frame.specs.Address.{IsAddress, is_same_address}
 use Rattle.hsr_frame_groups.specs.Frames.{CaughtFields}

@@ -30,6 +30,7 @@ use Rattle.hsr_health.specs.declared.measured.Measured.{Measured}
 use Rattle.hsr_health.specs.declared.seen.Seen.{Seen}
 use Rattle.hsr_health.specs.declared.settled.Settled.{Settled}
 use Rattle.hsr_health.specs.declared.health.Told.{Told}
+use Rattle.hsr_health.specs.declared.traffic.Outline.{Outline}
 use Rattle.hsr_health.specs.declared.traffic.Traffic.{Traffic}
 use Rattle.hsr_health.specs.declared.order.Facts.{Facts}
 use Rattle.hsr_health.specs.declared.reason.Reason.{Reason}
@@ -78,14 +79,24 @@ pub record IsInTime (before after : List PacketFields) : Type 0 where
   pub sorted : IsSortedByKey moment_of nat_cmp after
   pub stable : IsStableByKey moment_of nat_cmp before after
 
--- what came by the taps
-pub record IsTraffic (choice : ChoiceFields) (before : CaptureFields) (traffic : Traffic) : Type 0 where
-  pub packets : IsInTime before.packets traffic.capture.packets
-  pub same : traffic.capture ≡ record before { packets = traffic.capture.packets }
-  pub disorder : traffic.disorder ≡ disorder_of before.packets
+-- what stays of a capture, by its packets in the order of time
+pub record IsOutline (capture : CaptureFields) (packets : List PacketFields) (outline : Outline) : Type 0 where
+  pub interfaces : outline.interfaces.items ≡ capture.interfaces
+  pub losses : outline.losses.items ≡ capture.losses
+  pub many : outline.packets ≡ length capture.packets
+  pub disorder : outline.disorder ≡ disorder_of capture.packets
+  pub start : outline.start ≡ moment_or (slice_get packets 0)
+  pub end : outline.end ≡ end_by capture.end (slice_get packets (length packets - 1))
+  pub is_short : outline.is_short ≡ capture.is_short
+
+-- what stays of a capture, and what came by its taps
+pub record IsTraffic (choice : ChoiceFields) (capture : CaptureFields) (traffic : Traffic) : Type 0 where
+  pub packets : List PacketFields
+  pub in_time : IsInTime capture.packets packets
+  pub outline : IsOutline capture packets traffic.outline
   pub looked : List Bool
-  pub tapped : IsTapped choice before.interfaces traffic.capture.packets looked traffic.tapped
-  pub loads : AreLoads (map is_some traffic.tapped.tallies.items) traffic.capture.packets traffic.loads.items
+  pub tapped : IsTapped choice capture.interfaces packets looked traffic.tapped
+  pub loads : AreLoads (map is_some traffic.tapped.tallies.items) packets traffic.loads.items
 
 -- ---- directions
 
@@ -232,7 +243,7 @@ pub record IsSettled (ring : Ring) (taps : List Taps) (many : ℕ) (traffic : Tr
   pub absent : settled.absent.items ≡ filter (is_absent findings.sources.macs.items findings.known.abouts.all.items) expected
   pub told : List Reason
   pub facts : Facts
-  pub are_told : AreReasons ring taps traffic.tapped.copies.items many findings traffic.capture.losses (map (is_asked asked.choice) (range_with_len 0 (length traffic.capture.interfaces)))
+  pub are_told : AreReasons ring taps traffic.tapped.copies.items many findings traffic.outline.losses.items (map (is_asked asked.choice) (range_with_len 0 (length traffic.outline.interfaces.items)))
       settled.absent.items traffic.tapped.strays.items asked.table told
   pub are_facts : AreFacts traffic.tapped.copies.items findings facts
   pub reasons : settled.reasons.items ≡ in_order facts told
@@ -245,8 +256,8 @@ pub record IsSettled (ring : Ring) (taps : List Taps) (many : ℕ) (traffic : Tr
 -- the times of a capture, and the point and the way of each direction
 abbrev pub ring_in : Traffic → Bool → Ring
 ring_in traffic is_whole = record {
-  start = moment_or (slice_get traffic.capture.packets 0);
-  end = end_by traffic.capture.end (slice_get traffic.capture.packets (length traffic.capture.packets - 1));
+  start = traffic.outline.start;
+  end = traffic.outline.end;
   is_whole = is_whole;
   points = traffic.tapped.point_of.items;
   ways = traffic.tapped.way_of.items;
@@ -254,18 +265,13 @@ ring_in traffic is_whole = record {
 
 -- what is told of what came by the taps
 pub record IsTold (traffic : Traffic) (asked : Asked) (expected : List (List ℕ)) (told : Told) : Type 0 where
-  pub start : told.start ≡ (ring_in traffic asked.is_whole).start
-  pub end : told.end ≡ (ring_in traffic asked.is_whole).end
   pub found : AreFindings (ring_in traffic asked.is_whole) traffic.tapped.copies.items traffic.tapped.taps.items (length traffic.tapped.points.items) told.findings
   pub settled : IsSettled (ring_in traffic asked.is_whole) traffic.tapped.taps.items (length traffic.tapped.points.items) traffic asked expected told.findings told.settled
 
 -- all of it together: frames are the copies that began one
 abbrev pub health_in : Traffic → Findings → Settled → Health
 health_in traffic findings settled = record {
-  capture = traffic.capture;
-  disorder = traffic.disorder;
-  start = moment_or (slice_get traffic.capture.packets 0);
-  end = end_by traffic.capture.end (slice_get traffic.capture.packets (length traffic.capture.packets - 1));
+  outline = traffic.outline;
   tapped = traffic.tapped;
   loads = traffic.loads;
   points = findings.measured.points;

@@ -18,11 +18,10 @@ use crate::measured::{Measured, greatest};
 use crate::reason::Reason;
 use crate::settled::{Settled, settled_of};
 use crate::sources::Sources;
-use crate::traffic::{Traffic, end_of, start_of, traffic_of};
+use crate::traffic::{Outline, Traffic, traffic_of};
 use hsr_capture_reader::Capture;
 use hsr_frame::{Mac, NoMemory};
 use hsr_heard::{About, Abouts};
-use hsr_packet_order::Disorder;
 use hsr_sightings::{Crowd, Ring};
 use hsr_taps::Tapped;
 use std::alloc::{AllocError, AllocFailed, Global};
@@ -56,12 +55,7 @@ impl From<NoMemory> for HealthFault {
 /// All that is told of a capture.
 #[derive(Drop)]
 pub struct Health<'a> {
-    /// Its packets are in the order of time.
-    pub capture: Capture<'a>,
-    pub disorder: Disorder,
-    /// The first packet's moment, and the end.
-    pub start: u64,
-    pub end: u64,
+    pub outline: Outline<'a>,
     pub tapped: Tapped<'a>,
     /// Of each interface.
     pub loads: Vec<Load>,
@@ -127,23 +121,16 @@ fn judged_among(counts: &[Counts]) -> u64
     sum
 }
 
-/// All of it together, with the first packet's moment and the end.
-fn health_by<'a>(
-    traffic: Traffic<'a>,
-    start: u64,
-    end: u64,
-    findings: Findings,
-    settled: Settled,
-) -> Health<'a>
-    ensures { result ≡ record (health_in traffic.entry findings settled) { start = start; end = end } }
+/// All of it together.
+fn health_by<'a>(traffic: Traffic<'a>, findings: Findings, settled: Settled) -> Health<'a>
+    ensures { result ≡ health_in traffic.entry findings settled }
 {
     let needed = greatest(findings.measured.needed.as_slice());
     let frames = count_of(findings.seen.began.as_slice());
     let twice = twice_among(findings.known.counts.as_slice());
     let judged = judged_among(findings.known.counts.as_slice());
     let Traffic {
-        capture,
-        disorder,
+        outline,
         tapped,
         loads,
     } = traffic;
@@ -190,10 +177,7 @@ fn health_by<'a>(
         malformed,
     } = settled;
     Health {
-        capture,
-        disorder,
-        start,
-        end,
+        outline,
         tapped,
         loads,
         points,
@@ -219,11 +203,9 @@ fn health_by<'a>(
     }
 }
 
-/// What is told of what came by the taps, with the first packet's moment and the end.
+/// What is told of what came by the taps.
 #[derive(Drop)]
 struct Told {
-    start: u64,
-    end: u64,
     findings: Findings,
     settled: Settled,
 }
@@ -239,14 +221,11 @@ fn told_of(
     ensures some { IfOk result (λ found. IfSome found (λ told. IsTold traffic.now asked.now expected.now told)) }
     ensures none { IfOk result (λ found. IfNone found (HasManySources traffic.now.tapped.copies.items)) }
 {
-    let capture = &traffic.capture;
-    let start = start_of(capture);
-    let end = end_of(capture);
     let points = traffic.tapped.point_of.as_slice();
     let ways = traffic.tapped.way_of.as_slice();
     let ring = Ring {
-        start,
-        end,
+        start: traffic.outline.start,
+        end: traffic.outline.end,
         is_whole: asked.is_whole,
         points,
         ways,
@@ -258,12 +237,7 @@ fn told_of(
         return Ok(None);
     };
     let settled = settled_of(alloc, &ring, traffic, asked, expected, &findings)?;
-    Ok(Some(Told {
-        start,
-        end,
-        findings,
-        settled,
-    }))
+    Ok(Some(Told { findings, settled }))
 }
 
 /// All that is told of what came by the taps; none where there are too many sources.
@@ -282,13 +256,8 @@ fn health_in<'a>(
     match found {
         None => Ok(None),
         Some(told) => {
-            let Told {
-                start,
-                end,
-                findings,
-                settled,
-            } = told;
-            let health = health_by(traffic, start, end, findings, settled);
+            let Told { findings, settled } = told;
+            let health = health_by(traffic, findings, settled);
             Ok(Some(health))
         }
     }

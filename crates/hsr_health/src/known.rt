@@ -121,14 +121,14 @@ pub(crate) fn known_of(
     count_lives(&mut counts, heard.as_slice(), of_copy);
     count_unread(&mut counts, unread.as_slice(), of_copy);
     let said = life_numbers(alloc, heard.as_slice(), of_copy)?;
-    let lives = ledger_of(alloc, said.as_slice(), many)?;
+    let lives = ledger_of(alloc, said, many)?;
     let abouts = abouts_of(alloc, heard, ring.start, ring.end)?;
     let macs = sources.macs.as_slice();
     let told = abouts.all.as_slice();
     let groups = groups_of(alloc, macs, told)?;
     let of_source = groups.as_slice();
     let numbers = frame_numbers(alloc, copies, of_copy, of_source, marks)?;
-    let ledger = ledger_of(alloc, numbers.as_slice(), many)?;
+    let ledger = ledger_of(alloc, numbers, many)?;
     Ok(Known {
         counts,
         abouts,

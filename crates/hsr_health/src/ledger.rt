@@ -1,9 +1,10 @@
 //! The numbers of sources: gaps and restarts. A RedBox and its stations count together, so they are one group.
-ghost use Rattle.std.specs.Prelude.{◌≡◌, ◌<◌, ◌≤◌, ◌^◌, ◌++◌, ℕ, Bool, filter_map, find, length, map, option_to_list, slice_index, IfOk, OnOk};
+ghost use Rattle.std.specs.Prelude.{◌≡◌, ◌<◌, ◌≤◌, ◌^◌, ◌++◌, ℕ, Bool, filter_map, find, length, map, option_to_list, reverse, slice_index, IfOk, OnOk};
 ghost use Rattle.hsr_frame.specs.Address.{is_same_address};
 ghost use Rattle.hsr_health.specs.Counted.{changed, mark_of};
 ghost use Rattle.hsr_heard.specs.Hearing.{those_of};
 ghost use Rattle.hsr_health.specs.Numbering.{AreByRun, AreGroups, IsFirstSame, IsLedger, group_name, is_numbered, life_number, number_if, numbered_at, sums_by, with_gap, with_gaps, with_restart, with_restarts};
+ghost use Rattle.hsr_number_runs.specs.Runs.{in_runs, restarts_in};
 ghost use Rattle.hsr_sightings.specs.Ring as the_ring;
 ghost use Rattle.hsr_sightings.specs.Read.{TellsEach};
 
@@ -274,25 +275,36 @@ fn sums_of(
 }
 
 /// Numbers in runs, by run, and then by extended number.
-fn by_run(in_runs: Vec<InRun>) -> Result<Vec<InRun>, NoMemory>
-    ensures { IfOk result (λ sorted. AreByRun in_runs.items sorted.items) }
+fn by_run(in_runs: Vec<InRun>) -> Vec<InRun>
+    ensures { AreByRun in_runs.items result.items }
 {
     let mut sorted = in_runs;
-    sorted.sort_by_key(|p| (p.run, p.extended))?;
-    Ok(sorted)
+    // No two numbers of a run are the same, so that a sort that needs no room does.
+    sorted.sort_unstable_by_key(|p| (p.run, p.extended));
+    sorted
+}
+
+/// Numbers that are in the order of time, put into runs. The numbers go here: these and the runs would be the most that is there at a time.
+fn put_in_runs(alloc: Global, numbers: Vec<Numbered>) -> Result<Runs, NoMemory>
+    requires { length numbers.items < 2 ^ 31 }
+    ensures in_runs { IfOk result (λ runs. runs.in_runs.items ≡ reverse (in_runs (reverse numbers.items))) }
+    ensures restarts { IfOk result (λ runs. runs.restarts.items ≡ restarts_in (reverse numbers.items)) }
+{
+    let runs = runs_of(alloc, numbers.as_slice())?;
+    Ok(runs)
 }
 
 /// What numbers tell, which are in the order of time; there are so many senders, and no more groups.
 pub(crate) fn ledger_of(
     alloc: Global,
-    numbers: &[Numbered],
+    numbers: Vec<Numbered>,
     many: usize,
 ) -> Result<Ledger, NoMemory>
-    requires { length numbers.now < 2 ^ 31 }
-    ensures { IfOk result (λ ledger. IsLedger numbers.now many ledger) }
+    requires { length numbers.items < 2 ^ 31 }
+    ensures { IfOk result (λ ledger. IsLedger numbers.items many ledger) }
 {
-    let Runs { in_runs, restarts } = runs_of(alloc, numbers)?;
-    let in_runs = by_run(in_runs)?;
+    let Runs { in_runs, restarts } = put_in_runs(alloc, numbers)?;
+    let in_runs = by_run(in_runs);
     let gaps = gaps_of(alloc, in_runs.as_slice())?;
     let elsewhere = elsewhere_of(alloc, in_runs.as_slice(), many)?;
     let numbers = sums_of(alloc, gaps.as_slice(), restarts.as_slice(), many)?;

@@ -64,3 +64,4 @@ pub use ledger::GroupNumbers;
 pub use load::Load;
 pub use reason::{Reason, Spot, What, Word};
 pub use sources::MOST_SOURCES;
+pub use traffic::Outline;

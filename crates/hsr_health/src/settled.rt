@@ -11,7 +11,7 @@ use crate::findings::Findings;
 use crate::kinds::{MalformedKind, UntaggedKind, VlanKind, malformed_of, untagged_of, vlans_of};
 use crate::order::{Facts, in_order, lane_is_common, restart_covers, silence_covers};
 use crate::reason::Reason;
-use crate::traffic::{Traffic, interfaces_of, losses_of};
+use crate::traffic::Traffic;
 use crate::whole_reasons::absent_of;
 use hsr_frame::{Mac, NoMemory};
 use hsr_frame_groups::Caught;
@@ -65,9 +65,8 @@ pub(crate) fn settled_of(
 {
     let copies = traffic.tapped.copies.as_slice();
     let strays = traffic.tapped.strays.as_slice();
-    let capture = &traffic.capture;
-    let is_asked = asked_of(alloc, &asked.choice, interfaces_of(capture))?;
-    let losses = losses_of(capture);
+    let is_asked = asked_of(alloc, &asked.choice, traffic.outline.interfaces.len())?;
+    let losses = traffic.outline.losses.as_slice();
     let macs = findings.sources.macs.as_slice();
     let absent = absent_of(alloc, expected, macs, findings.known.abouts.all.as_slice())?;
     let beside = Beside {

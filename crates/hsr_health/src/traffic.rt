@@ -3,7 +3,7 @@ ghost use Rattle.std.specs.Prelude.{◌≡◌, ◌-◌, is_some, length, map, sl
 ghost use Rattle.hsr_health.specs.Whole.{IsBounded, IsInTime, IsTraffic, end_by, moment_or};
 
 use crate::load::{Load, loads_of};
-use hsr_capture_reader::{Capture, Losses, Packet};
+use hsr_capture_reader::{Capture, Interface, Losses, Packet};
 use hsr_frame::NoMemory;
 use hsr_packet_order::{Disorder, disorder_of, sort_by_time};
 use hsr_taps::{Choice, Tapped, tap};
@@ -29,34 +29,6 @@ fn last_moment(packets: &[Packet<'_>], end: u64) -> u64
     }
 }
 
-/// The first packet's moment.
-pub(crate) fn start_of(capture: &Capture<'_>) -> u64
-    ensures { result ≡ moment_or (slice_get capture.now.packets 0) }
-{
-    first_moment(capture.packets.as_slice())
-}
-
-/// The end: the moment of the last packet, or a later one that the file says.
-pub(crate) fn end_of(capture: &Capture<'_>) -> u64
-    ensures { result ≡ end_by capture.now.end (slice_get capture.now.packets (length capture.now.packets - 1)) }
-{
-    last_moment(capture.packets.as_slice(), capture.end)
-}
-
-/// How many interfaces a capture has.
-pub(crate) fn interfaces_of(capture: &Capture<'_>) -> usize
-    ensures { result ≡ length capture.now.interfaces }
-{
-    capture.interfaces.len()
-}
-
-/// What a capture lost at each interface.
-pub(crate) fn losses_of<'b>(capture: &'b Capture<'_>) -> &'b [Losses]
-    ensures { result.now ≡ capture.now.losses }
-{
-    capture.losses.as_slice()
-}
-
 /// Of each interface whether it is looked at.
 fn looked_at(alloc: Global, tapped: &Tapped<'_>) -> Result<Vec<bool>, NoMemory>
     ensures { IfOk result (λ looked. looked.items ≡ map is_some tapped.now.tallies.items) }
@@ -77,11 +49,28 @@ fn in_time<'a>(packets: Vec<Packet<'a>>) -> Result<Vec<Packet<'a>>, NoMemory>
     Ok(packets)
 }
 
-/// A capture whose packets are in the order of time, how far the file was out of it, and what came by its taps.
+/// What stays of a capture: all but its packets.
+#[derive(Drop)]
+pub struct Outline<'a> {
+    pub interfaces: Vec<Interface<'a>>,
+    /// Of each interface what the capture itself lost there.
+    pub losses: Vec<Losses>,
+    /// How many packets there were.
+    pub packets: usize,
+    /// How far the file was out of the order of time.
+    pub disorder: Disorder,
+    /// The first packet's moment, in nanoseconds since 1970.
+    pub start: u64,
+    /// The moment of the last packet, or a later end that the file says.
+    pub end: u64,
+    /// Whether the file breaks off.
+    pub is_short: bool,
+}
+
+/// What stays of a capture, and what came by its taps.
 #[derive(Drop)]
 pub(crate) struct Traffic<'a> {
-    pub(crate) capture: Capture<'a>,
-    pub(crate) disorder: Disorder,
+    pub(crate) outline: Outline<'a>,
     pub(crate) tapped: Tapped<'a>,
     pub(crate) loads: Vec<Load>,
 }
@@ -103,21 +92,26 @@ pub(crate) fn traffic_of<'a>(
         is_short,
     } = capture;
     let disorder = disorder_of(packets.as_slice());
+    let many = packets.len();
     let sorted = in_time(packets)?;
     let by_number = interfaces.as_slice();
     let in_order = sorted.as_slice();
     let tapped = tap(alloc, by_number, in_order, choice)?;
     let looked = looked_at(alloc, &tapped)?;
     let loads = loads_of(alloc, in_order, looked.as_slice())?;
+    let start = first_moment(in_order);
+    let end = last_moment(in_order, end);
+    // The packets go here: nothing more is told of them, and they take nearly as much room as the copies.
     Ok(Traffic {
-        capture: Capture {
+        outline: Outline {
             interfaces,
             losses,
-            packets: sorted,
+            packets: many,
+            disorder,
+            start,
             end,
             is_short,
         },
-        disorder,
         tapped,
         loads,
     })

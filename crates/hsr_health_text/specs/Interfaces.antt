@@ -16,7 +16,7 @@ use Rattle.hsr_health_text.specs.Words.{maybe_text, name_text, pair_text, rate_t
 
 -- the first packet's moment
 abbrev pub start_text : Health → List ℕ
-start_text health = if length health.capture.packets == 0 then codes "-" else time_text health.start
+start_text health = if health.outline.packets == 0 then codes "-" else time_text health.outline.start
 
 -- how far the file is out of the order of time; a brief report tells it where it is
 abbrev pub disorder_text : Bool → Disorder → List ℕ
@@ -29,9 +29,9 @@ end_text is_short = if is_short then codes " end short\n" else codes " end whole
 
 unfoldable pub head_line : Bool → Health → List ℕ
 head_line is_full health =
-    codes "health 1" ++ pair_text (codes "packets") (length health.capture.packets)
-    ++ pair_text (codes "interfaces") (length health.capture.interfaces) ++ pair_text (codes "us") (us_since health.start health.end)
-    ++ codes " start " ++ start_text health ++ disorder_text is_full health.disorder ++ end_text health.capture.is_short
+    codes "health 1" ++ pair_text (codes "packets") (health.outline.packets)
+    ++ pair_text (codes "interfaces") (length health.outline.interfaces.items) ++ pair_text (codes "us") (us_since health.outline.start health.outline.end)
+    ++ codes " start " ++ start_text health ++ disorder_text is_full health.outline.disorder ++ end_text health.outline.is_short
 
 -- ---- interfaces
 
@@ -72,8 +72,8 @@ load_if us None = []
 -- what is told of an interface that is looked at
 unfoldable pub looked_text : Health → ℕ → Tally → List ℕ
 looked_text health i tally =
-    tally_text tally ++ maybe_text (codes "dropped") (dropped_if (slice_get health.capture.losses i)) ++ taps_if (slice_get health.tapped.taps.items i)
-    ++ load_if (us_since health.start health.end) (slice_get health.loads.items i)
+    tally_text tally ++ maybe_text (codes "dropped") (dropped_if (slice_get health.outline.losses.items i)) ++ taps_if (slice_get health.tapped.taps.items i)
+    ++ load_if (us_since health.outline.start health.outline.end) (slice_get health.loads.items i)
 
 -- one that isn't
 unfoldable pub skipped_text : ℕ → List ℕ
@@ -98,7 +98,7 @@ line_if health i (Some interface) = interface_line health i interface
 line_if health i None = []
 
 abbrev pub line_at : List ℕ → Health → ℕ → List ℕ
-line_at asked health i = if is_asked asked i then line_if health i (slice_get health.capture.interfaces i) else []
+line_at asked health i = if is_asked asked i then line_if health i (slice_get health.outline.interfaces.items i) else []
 
 abbrev pub interfaces_text : List ℕ → Health → List ℕ
-interfaces_text asked health = flat_map (line_at asked health) (range_with_len 0 (length health.capture.interfaces))
+interfaces_text asked health = flat_map (line_at asked health) (range_with_len 0 (length health.outline.interfaces.items))

@@ -144,7 +144,7 @@ more_if name (suc runs) frames = more_line name (suc runs) frames
 
 unfoldable pub spans_text : Health → List ℕ → ℕ → List ℕ
 spans_text health name p =
-    flat_map (span_at health.start health.spans.items name) (told_at health.spans.items p)
+    flat_map (span_at health.outline.start health.spans.items name) (told_at health.spans.items p)
     ++ more_if name (runs_at health.spans.items p - length (told_at health.spans.items p))
     (left_of health.spans.items p (told_at health.spans.items p) (length health.spans.items))
 

@@ -160,7 +160,7 @@ absent_line mac = codes "absent " ++ mac_text mac ++ codes "\n"
 unfoldable pub healthy_line : Health → List ℕ
 healthy_line health =
     codes "healthy " ++ decimal health.frames ++ pair_text (codes "twice") health.twice ++ pair_text (codes "of") health.judged
-    ++ pair_text (codes "for") (us_since health.start health.end) ++ codes "\n"
+    ++ pair_text (codes "for") (us_since health.outline.start health.outline.end) ++ codes "\n"
 
 unfoldable pub doubt_line : ℕ → List (List ℕ) → Reason → List ℕ
 doubt_line start points reason = codes "doubt " ++ word_text reason.word ++ rest_text start points reason
@@ -168,7 +168,7 @@ doubt_line start points reason = codes "doubt " ++ word_text reason.word ++ rest
 -- the first reason, or that the ring is healthy, where there is none
 abbrev pub verdict_by : Health → List Reason → List ℕ
 verdict_by health [] = healthy_line health
-verdict_by health (first ∷ others) = doubt_line health.start health.tapped.points.items first
+verdict_by health (first ∷ others) = doubt_line health.outline.start health.tapped.points.items first
 
 abbrev pub verdict_text : Health → List ℕ
 verdict_text health = verdict_by health health.reasons.items
@@ -177,4 +177,4 @@ verdict_text health = verdict_by health health.reasons.items
 unfoldable pub reasons_text : Health → List ℕ
 reasons_text health =
     flat_map absent_line health.absent.items
-    ++ flat_map (reason_line health.start health.tapped.points.items) health.reasons.items ++ verdict_text health
+    ++ flat_map (reason_line health.outline.start health.tapped.points.items) health.reasons.items ++ verdict_text health

@@ -111,4 +111,4 @@ node_line start end about =
     codes "node " ++ mac_text about.mac ++ known_word end about ++ kind_word about.kind ++ who_text about ++ heard_text start about ++ codes "\n"
 
 unfoldable pub nodes_text : Health → List ℕ
-nodes_text health = flat_map (node_line health.start health.end) health.abouts.items
+nodes_text health = flat_map (node_line health.outline.start health.outline.end) health.abouts.items

@@ -14,10 +14,10 @@ use hsr_text::{put, put_number};
 fn put_start(text: &mut Vec<u8>, health: &Health<'_>) -> Result<(), NoMemory>
     ensures { OnOk result (text.new.items ≡ text.old.items ++ start_text health.now) }
 {
-    if health.capture.packets.is_empty() {
+    if health.outline.packets == 0 {
         put(text, "-")
     } else {
-        put_time(text, health.start)
+        put_time(text, health.outline.start)
     }
 }
 
@@ -53,13 +53,17 @@ pub(crate) fn put_head(
     ensures { OnOk result (text.new.items ≡ text.old.items ++ head_line is_full health.now) }
 {
     put(text, "health 1")?;
-    put_pair(text, "packets", health.capture.packets.len() as u64)?;
-    put_pair(text, "interfaces", health.capture.interfaces.len() as u64)?;
-    put_pair(text, "us", us_since(health.start, health.end))?;
+    put_pair(text, "packets", health.outline.packets as u64)?;
+    put_pair(text, "interfaces", health.outline.interfaces.len() as u64)?;
+    put_pair(
+        text,
+        "us",
+        us_since(health.outline.start, health.outline.end),
+    )?;
     put(text, " start ")?;
     put_start(text, health)?;
-    put_disorder(text, is_full, health.disorder)?;
-    put(text, end_text(health.capture.is_short))
+    put_disorder(text, is_full, health.outline.disorder)?;
+    put(text, end_text(health.outline.is_short))
 }
 
 /// How the directions of an interface are told apart, in a word.
@@ -146,12 +150,12 @@ fn put_looked_at(
 ) -> Result<(), NoMemory>
     ensures { OnOk result (text.new.items ≡ text.old.items ++ looked_text health.now i tally.now) }
 {
-    let us = us_since(health.start, health.end);
+    let us = us_since(health.outline.start, health.outline.end);
     put_tally(text, tally)?;
     put_maybe(
         text,
         "dropped",
-        dropped_at(health.capture.losses.as_slice(), i),
+        dropped_at(health.outline.losses.as_slice(), i),
     )?;
     put_taps(text, health.tapped.taps.as_slice(), i)?;
     put_load_at(text, us, health.loads.as_slice(), i)
@@ -228,7 +232,7 @@ fn put_line_at(
     ensures { OnOk result (text.new.items ≡ text.old.items ++ line_at asked.now health.now i) }
 {
     if is_asked(asked, i) {
-        return put_line_if(text, health, i, health.capture.interfaces.get(i));
+        return put_line_if(text, health, i, health.outline.interfaces.get(i));
     }
     Ok(())
 }
@@ -242,7 +246,7 @@ pub(crate) fn put_interfaces(
 ) -> Result<(), NoMemory>
     ensures { OnOk result (text.new.items ≡ text.old.items ++ interfaces_text asked.now health.now) }
 {
-    for i in 0..health.capture.interfaces.len() {
+    for i in 0..health.outline.interfaces.len() {
         put_line_at(text, health, asked, i)?;
     }
     Ok(())

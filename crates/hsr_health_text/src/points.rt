@@ -407,7 +407,7 @@ fn put_spans(
     let spans = health.spans.as_slice();
     let told = told_at(alloc, spans, point)?;
     let told = told.as_slice();
-    put_told_spans(alloc, text, health.start, spans, name, told)?;
+    put_told_spans(alloc, text, health.outline.start, spans, name, told)?;
     let runs = runs_at(spans, point).saturating_sub(told.len());
     put_more_if(text, name, runs, left_of(spans, point, told))
 }

@@ -486,7 +486,11 @@ fn put_healthy(text: &mut Vec<u8>, health: &Health<'_>) -> Result<(), NoMemory>
     put_number(text, health.frames)?;
     put_pair(text, "twice", health.twice)?;
     put_pair(text, "of", health.judged)?;
-    put_pair(text, "for", us_since(health.start, health.end))?;
+    put_pair(
+        text,
+        "for",
+        us_since(health.outline.start, health.outline.end),
+    )?;
     end_line(text)
 }
 
@@ -514,7 +518,7 @@ fn put_verdict(alloc: Global, text: &mut Vec<u8>, health: &Health<'_>) -> Result
         [] => put_healthy(text, health),
         [first, ..] => {
             let points = health.tapped.points.as_slice();
-            put_doubt(alloc, text, health.start, points, first)
+            put_doubt(alloc, text, health.outline.start, points, first)
         }
     }
 }
@@ -531,6 +535,6 @@ pub(crate) fn put_reasons(
     let points = health.tapped.points.as_slice();
     let reasons = health.reasons.as_slice();
     put_all_absent(alloc, text, health.absent.as_slice())?;
-    put_all_reasons(alloc, text, health.start, points, reasons)?;
+    put_all_reasons(alloc, text, health.outline.start, points, reasons)?;
     put_verdict(alloc, text, health)
 }

@@ -359,8 +359,8 @@ pub(crate) fn put_abouts(
     put_all_abouts(
         alloc,
         text,
-        health.start,
-        health.end,
+        health.outline.start,
+        health.outline.end,
         health.abouts.as_slice(),
     )
 }

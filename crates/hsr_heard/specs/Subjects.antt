@@ -138,6 +138,7 @@ pub record PutsOne (start end : ℕ) (mac : List ℕ) (copies : List Heard) (old
 abbrev pub PutsAbout : ℕ → ℕ → List ℕ → List Heard → Abouts → Abouts → Type 0
 PutsAbout start end mac copies old new = ((frames_in copies ≡ []) × (new ≡ old)) ⊎ PutsOne start end mac copies old new
 
+-- when it came; 0 where there is none
 abbrev pub moment_of : Option Heard → ℕ
 moment_of None = 0
 moment_of (Some one) = one.at

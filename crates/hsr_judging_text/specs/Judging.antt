@@ -25,9 +25,8 @@ judge_fault_words (fault.Passages fault) = fault_words fault
 judge_fault_words fault.Table = codes "table bad-value"
 judge_fault_words fault.NoMemory = codes "memory"
 
--- By a capture: the passages are those that it shows, there are tables of as many entries as the device has, and ends are tapped where an interface
--- shows them. What is said is the verdict of their
--- judgement, and the report of that judgement was put behind what stood there.
+-- By a capture: the passages are those that it shows, there are tables of as many entries as the device has, and ends are tapped where an
+-- interface shows them. What is said is the verdict of their judgement, and the report of that judgement was put behind what stood there.
 pub record IsVerdict (device : DeviceFields) (interfaces : List InterfaceFields) (packets : List PacketFields) (told : ℕ) (showing : Showing)
     (before after : List ℕ) (said : Bool) : Type 0 where
   pub shown : ShownFields

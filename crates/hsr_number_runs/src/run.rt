@@ -255,7 +255,8 @@ pub fn runs_of(alloc: Global, numbers: &[Numbered]) -> Result<Runs, NoMemory>
     ensures restarts { IfOk result (λ runs. runs.restarts.items ≡ restarts_in (reverse numbers.now)) }
 {
     let mut counting = Counting::new(alloc);
-    let mut in_runs = Vec::new(alloc);
+    // As much room as there will be numbers: a list that grows by doubling takes up to twice that.
+    let mut in_runs = Vec::with_capacity(alloc, numbers.len())?;
     let mut restarts = Vec::new(alloc);
     for n in numbers {
         let placed = counting.place(*n);

@@ -1,6 +1,6 @@
-use Rattle.std.proofs.Common.{ℕ, ◌∙◌, ap, subst}
+use Rattle.std.proofs.Common.{◌∙◌, ap, subst}
 use Rattle.std.specs.Prelude.{IfSome}
-use Rattle.hsr_health.specs.Whole.{IsTold, health_in, ring_in}
+use Rattle.hsr_health.specs.Whole.{IsTold}
 use Rattle.hsr_health.specs.declared.health.Health.{Health}
 use Rattle.hsr_health.proofs.Flagging.{count_is}
 use Rattle.hsr_sightings.specs.Frames.{begins}
@@ -11,10 +11,8 @@ returns-clause-some c = λ capture came.
     let traffic = c.args.traffic in
     let asked = c.args.asked.now in
     let told = c.in-Some.told in
-    let all = health_in traffic told.findings told.settled in
     let is = subst (λ o. IfSome o (λ t. IsTold traffic asked c.args.expected.now t)) c.in-Some.is c.in_ok-found.ensures.some in
-    let made = c.health_by-health.ensures ∙ ap (λ (x : ℕ). record all { start = x; end = told.end }) is.start
-    ∙ ap (λ (x : ℕ). record all { start = (ring_in traffic asked.is_whole).start; end = x }) is.end in
+    let made = c.health_by-health.ensures in
     record {
       traffic = traffic;
       findings = told.findings;

@@ -9,8 +9,7 @@ pub findings_of-requires : goal.findings_of-requires
 findings_of-requires c =
     let traffic = c.args.traffic.now in
     let asked = c.args.asked.now in
-    let ring = ring_is traffic asked.is_whole c.start_of-start.result c.end_of-end.result c.as_slice-points.result.now c.as_slice-ways.result.now c.start_of-start.ensures c.end_of-end.ensures
-    c.as_slice-points.ensures.value c.as_slice-ways.ensures.value in
+    let ring = ring_is traffic asked.is_whole c.as_slice-points.result.now c.as_slice-ways.result.now c.as_slice-points.ensures.value c.as_slice-ways.ensures.value in
     subst (λ (r : Ring). AreCaught r c.as_slice-copies.result.now) (sym ring)
     (subst (AreCaught (ring_in traffic asked.is_whole)) (sym c.as_slice-copies.ensures.value) (caught_of asked.choice c.requires.0 traffic asked.is_whole c.requires.1 c.requires.2))
 
@@ -22,11 +21,10 @@ returns-clause-some c =
     let traffic = c.args.traffic.now in
     let asked = c.args.asked.now in
     let expected = c.args.expected.now in
-    let ring = ring_is traffic asked.is_whole c.start_of-start.result c.end_of-end.result c.as_slice-points.result.now c.as_slice-ways.result.now c.start_of-start.ensures c.end_of-end.ensures
-    c.as_slice-points.ensures.value c.as_slice-ways.ensures.value in
+    let ring = ring_is traffic asked.is_whole c.as_slice-points.result.now c.as_slice-ways.result.now c.as_slice-points.ensures.value c.as_slice-ways.ensures.value in
     let raw : Ring = record {
-      start = c.start_of-start.result;
-      end = c.end_of-end.result;
+      start = traffic.outline.start;
+      end = traffic.outline.end;
       is_whole = asked.is_whole;
       points = c.as_slice-points.result.now;
       ways = c.as_slice-ways.result.now;
@@ -38,8 +36,6 @@ returns-clause-some c =
     let many : c.len-many.result ≡ points = c.len-many.ensures ∙ traffic.tapped.points.ok.0 in
     let found = subst (λ o. IfSome o (λ f. AreFindings raw copies taps c.len-many.result f)) c.in-Some.is c.in_ok-findings.ensures.some in
     record {
-      start = c.start_of-start.ensures;
-      end = c.end_of-end.ensures;
       found = findings_same raw whole copies traffic.tapped.copies.items taps traffic.tapped.taps.items c.len-many.result points c.in-Some.findings ring c.as_slice-copies.ensures.value
           c.as_slice-taps.ensures.value many found;
       settled = subst (λ (r : Ring). IsSettled r traffic.tapped.taps.items points traffic asked expected c.in-Some.findings c.in_ok-settled.settled) ring

@@ -18,7 +18,6 @@ pub ledger_of-requires : goal.ledger_of-requires
 ledger_of-requires c =
     omega (
       arith,
-      ap length c.as_slice-4.ensures.value,
       ap length c.in_ok-said.ensures,
       short_filter_map (life_number c.as_slice-of_copy.result.now) c.as_slice-3.result.now,
       ap length c.as_slice-3.ensures.value,
@@ -38,9 +37,9 @@ returns c =
     let lanes = is_at (lanes_of c.requires.seen.0) in
     let of_copy = c.as_slice-of_copy.ensures.value in
     let many : c.len-many.result ≡ length sources.macs.items = c.len-many.ensures ∙ sources.macs.ok.0 in
-    let numbered = c.as_slice-5.ensures.value ∙ c.in_ok-numbers.ensures.numbers lanes ring (subst (TellsEach (mark_of lanes ring) copies) (sym c.as_slice-marks.ensures.value) seen.marks)
+    let numbered = c.in_ok-numbers.ensures.numbers lanes ring (subst (TellsEach (mark_of lanes ring) copies) (sym c.as_slice-marks.ensures.value) seen.marks)
     ∙ ap (λ l. those_of (numbered_at l c.as_slice-of_source.result.now) copies) of_copy ∙ ap (λ l. those_of (numbered_at sources.of_copy.items l) copies) c.as_slice-of_source.ensures.value in
-    let said = c.as_slice-4.ensures.value ∙ c.in_ok-said.ensures ∙ ap (λ l. filter_map (life_number l) c.as_slice-3.result.now) of_copy
+    let said = c.in_ok-said.ensures ∙ ap (λ l. filter_map (life_number l) c.as_slice-3.result.now) of_copy
     ∙ ap (filter_map (life_number sources.of_copy.items)) c.as_slice-3.ensures.value in
     let sightings = subst (λ l. AreSightings ring copies l numbers) (sym c.as_slice-all.ensures.value) c.requires.seen.1.sightings in
     let none_at = λ (k : ℕ) (own : Counts) (here : slice_get c.in_ok-counts.counts.items k ≡ Some own).

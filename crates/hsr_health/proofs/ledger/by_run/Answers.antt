@@ -5,6 +5,6 @@ use Rattle.hsr_health.proofs.ledger.by_run.Goals as goal
 
 pub returns : goal.returns
 returns c = record {
-  same = c.in_ok-sort_by_key.ensures.permutation;
-  sorted = c.in_ok-sort_by_key.ensures.sorted (λ (p : InRun). (p.run, p.extended)) (answers_always _ _ _ (λ f a r g h. search rules));
+  same = c.sort_unstable_by_key.ensures.permutation;
+  sorted = c.sort_unstable_by_key.ensures.sorted (λ (p : InRun). (p.run, p.extended)) (answers_always _ _ _ (λ f a r g h. search rules));
 }

@@ -21,8 +21,8 @@ returns c = λ taps many found.
           ∙ ap (λ l. filter (is_absent findings.sources.macs.items l) expected) c.as_slice.ensures.value;
       told = c.in_ok-told.told.items;
       facts = c.facts_of.result;
-      are_told = reasons_same ring taps _ _ many findings _ _ _ _ _ _ _ _ asked.table c.in_ok-told.told.items copies c.losses_of-losses.ensures
-          (c.as_slice-2.ensures.value ∙ c.in_ok-is_asked.ensures ∙ ap (λ n. map (is_asked asked.choice) (range_with_len 0 n)) c.interfaces_of.ensures) c.as_slice-3.ensures.value strays
+      are_told = reasons_same ring taps _ _ many findings _ _ _ _ _ _ _ _ asked.table c.in_ok-told.told.items copies c.as_slice-losses.ensures.value
+          (c.as_slice-2.ensures.value ∙ c.in_ok-is_asked.ensures ∙ ap (λ n. map (is_asked asked.choice) (range_with_len 0 n)) (c.len.ensures ∙ c.args.traffic.now.outline.interfaces.ok.0)) c.as_slice-3.ensures.value strays
           (c.in_ok-told.ensures taps many (subst (λ l. AreFindings ring l taps many findings) (sym copies) found));
       are_facts = subst (λ l. AreFacts l findings c.facts_of.result) copies c.facts_of.ensures;
       reasons = c.in_ok-reasons.ensures ∙ ap (in_order c.facts_of.result) c.as_slice-4.ensures.value;

@@ -1,10 +1,11 @@
-use Rattle.std.proofs.Common.{◌∙◌, ap, arith, length, subst, sym}
+use Rattle.std.proofs.Common.{◌∙◌, ◌-◌, ap, arith, length, subst, sym}
+use Rattle.std.specs.Prelude.{slice_get}
 use Rattle.std.proofs.lemmas.List.Sorted.{length_permutation}
 use Rattle.hsr_capture_reader.specs.Capture.{CaptureFields}
 use Rattle.hsr_packet_order.specs.Disorder.{disorder_of}
 use Rattle.hsr_taps.specs.Came.{AreInOrder, ArePackets, IsTapped}
 use Rattle.hsr_health.specs.Loads.{AreLoads}
-use Rattle.hsr_health.specs.Whole.{IsInTime}
+use Rattle.hsr_health.specs.Whole.{IsInTime, end_by, moment_or}
 use Rattle.hsr_health.proofs.Capturing.{in_order_from, own_numbers_from}
 use Rattle.hsr_health.proofs.traffic.traffic_of.Goals as goal
 
@@ -30,10 +31,19 @@ returns c =
     let sorted = c.in_ok-sorted.sorted.items in
     let tapped = c.in_ok-tapped.tapped in
     let loads = c.in_ok-loads.loads.items in
+    let packets = ap (λ (x : CaptureFields). x.packets) c.capture.view_is in
     record {
-      packets = subst (λ l. IsInTime l sorted) (ap (λ (x : CaptureFields). x.packets) c.capture.view_is) c.in_ok-sorted.ensures;
-      same = ap (λ (x : CaptureFields). record x { packets = sorted }) c.capture.view_is;
-      disorder = c.disorder_of-disorder.ensures ∙ ap disorder_of (c.as_slice.ensures.value ∙ ap (λ (x : CaptureFields). x.packets) c.capture.view_is);
+      packets = sorted;
+      in_time = subst (λ l. IsInTime l sorted) packets c.in_ok-sorted.ensures;
+      outline = record {
+        interfaces = ap (λ (x : CaptureFields). x.interfaces) c.capture.view_is;
+        losses = ap (λ (x : CaptureFields). x.losses) c.capture.view_is;
+        many = c.len-many.ensures ∙ c.capture.inside.packets.ok.0 ∙ ap length packets;
+        disorder = c.disorder_of-disorder.ensures ∙ ap disorder_of (c.as_slice.ensures.value ∙ packets);
+        start = c.first_moment-start.ensures ∙ ap (λ l. moment_or (slice_get l 0)) c.as_slice-in_order.ensures.value;
+        end = c.last_moment-end.ensures ∙ ap (λ l. end_by c.capture.inside.end (slice_get l (length l - 1))) c.as_slice-in_order.ensures.value ∙ ap (λ (x : CaptureFields). end_by x.end (slice_get sorted (length sorted - 1))) c.capture.view_is;
+        is_short = ap (λ (x : CaptureFields). x.is_short) c.capture.view_is;
+      };
       looked = c.in_ok-tapped.ensures.0;
       tapped = subst (λ l. IsTapped choice l sorted c.in_ok-tapped.ensures.0 tapped) (c.as_slice-by_number.ensures.value ∙ ap (λ (x : CaptureFields). x.interfaces) c.capture.view_is)
           (subst (λ l. IsTapped choice c.as_slice-by_number.result.now l c.in_ok-tapped.ensures.0 tapped) c.as_slice-in_order.ensures.value c.in_ok-tapped.ensures.1);
