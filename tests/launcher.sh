@@ -321,7 +321,7 @@ completed() {
 }
 
 try_completions() {
-  is 'commands' 'node run threads audit help' "$(completed hsr_bench '' | sed 's/ --.*//')"
+  is 'commands' 'node run threads audit certify help' "$(completed hsr_bench '' | sed 's/ --.*//')"
   is 'options' '--table --transcript' "$(completed hsr_bench run --t)"
   is 'options of another command' '--table' "$(completed hsr_bench audit --t)"
   is 'modes' 'H N U' "$(completed hsr_bench node --mode '')"

@@ -19,7 +19,7 @@ def commands(setting):
     for words in ([], ["node"]):
         yield "hsr_bench", words, line
     yield "hsr_bench", ["node"], b"age 0\n" * 200_000
-    for words in (["run"], ["run", "--transcript"], ["threads"]):
+    for words in (["run"], ["run", "--transcript"], ["threads"], ["certify"]):
         yield "hsr_bench", words, ring
     yield "hsr_bench", ["audit"], transcript
     for words in (["picture"], ["capture"], ["devices"]):

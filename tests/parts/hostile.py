@@ -98,12 +98,17 @@ def same(given):
 def hurled(name, text=NO_TEXT):
     """What is no text of any command."""
     rows = [(name, ["node"], 1, NO_LINE), (name, ["audit"], 1, NO_TRANSCRIPT)]
-    return rows + both(name, 1, text)
+    return rows + unread(name, text)
 
 
 def both(name, status, last):
     """A scenario by both commands that play one."""
     return [(name, [command], status, last) for command in ("run", "threads")]
+
+
+def unread(name, last):
+    """What is no scenario by each command that takes one."""
+    return both(name, 1, last) + [(name, ["certify"], 1, last)]
 
 
 def planned(name, said):
@@ -169,12 +174,12 @@ def jobs_of_no_text():
 def jobs_of_large_texts():
     counts = b"hsr-bench 2\ntable 512\nnodes 18446744073709551615\nquadbox\nquad\n"
     return [
-        Job(try_rows, (both("16 MiB", 0, "certified 1"), inputs.padded, inputs.MIB_16), 4),
-        Job(try_rows, (both("16 MiB and one octet", 1, NO_TEXT), inputs.padded, inputs.MIB_16 + 1), 2),
-        Job(try_rows, (both("200,000 steps", 0, "certified 0"), inputs.many_steps), 8),
+        Job(try_rows, (both("16 MiB", 0, "certified 1") + [("16 MiB", ["certify"], 0, "certified 1 in any order")], inputs.padded, inputs.MIB_16), 4),
+        Job(try_rows, (unread("16 MiB and one octet", NO_TEXT), inputs.padded, inputs.MIB_16 + 1), 2),
+        Job(try_rows, (both("200,000 steps", 0, "certified 0") + [("200,000 steps", ["certify"], 2, "doubt empty")], inputs.many_steps), 8),
         Job(try_transcript, (), 4),
         Job(try_rows, (both("64 nodes, and 4096 copies on each link", 0, "certified 0"), ring(64, 4096).encode), 2),
-        Job(try_rows, (both("capacity 4097", 1, "fault: scenario top bad-value capacity"), ring(64, 4097).encode), 1),
+        Job(try_rows, (unread("capacity 4097", "fault: scenario top bad-value capacity"), ring(64, 4097).encode), 1),
         Job(try_rows, ([("16 MiB and one octet of lines", ["node"], 0, NO_ANSWER)], inputs.lines, inputs.MIB_16 + 1), 4),
         Job(try_rows, ([("counts of 2^64 - 1", ["audit"], 1, "fault: transcript line 5")], same, counts), 1),
         Job(try_rows, ([("a storm", ["run", "--table", "small"], 1, "fault: step 5 unsettled")], storm(5).encode), 20),
@@ -219,5 +224,5 @@ def jobs_of_captures():
 
 
 def jobs(setting):
-    folder = [("a folder as input", [command], 1, "fault: read") for command in ("node", "run", "threads", "audit", "picture")]
+    folder = [("a folder as input", [command], 1, "fault: read") for command in ("node", "run", "threads", "audit", "certify", "picture")]
     return jobs_of_no_text() + jobs_of_large_texts() + jobs_of_plans() + jobs_to_show() + jobs_of_captures() + [Job(try_rows, (folder, same, str(ROOT)), 1)]

@@ -66,6 +66,6 @@ def try_open(setting):
 def jobs(setting):
     scenario = long_scenario()
     transcript = run(setting, "hsr_bench", ["run", "--transcript"], scenario)[1]
-    tries = [(["node"], SENDS, 3, 3), (["run"], scenario, 3, 1), (["threads"], scenario, 3, 1)]
+    tries = [(["node"], SENDS, 3, 3), (["run"], scenario, 3, 1), (["threads"], scenario, 3, 1), (["certify"], scenario, 3, 1)]
     tries += [(["run", "--transcript"], scenario, 1, 1), (["audit"], transcript, 2, 1)]
     return [Job(try_command, one) for one in tries] + [Job(try_open)]

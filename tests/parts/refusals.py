@@ -111,6 +111,7 @@ def short_rows():
     transcript = case_of("hsr_bench", "texts", "group-round-a-ring-audit").given
     lines = case_of("hsr_bench", "words", "defaults-by-their-words").given
     rows = [("hsr_bench", ["node"], lines), ("hsr_bench", ["run"], ring), ("hsr_bench", ["threads"], ring), ("hsr_bench", ["audit"], transcript)]
+    rows += [("hsr_bench", ["certify", "--coarse"], ring)]
     rows += [("hsr_view", [word], transcript) for word in ("picture", "capture", "devices")]
     rows += [("hsr_plan", [], SHORT_PLAN), ("hsr_plan", ["--check"], ring), ("hsr_plan", ["sweep"], SHORT_PLAN)]
     captures = ROOT / "examples" / "captures"
@@ -130,7 +131,7 @@ def example_rows(setting, path):
     """An example of a scenario by each command that takes it, or the run of it."""
     text, name = path.read_bytes(), path.relative_to(ROOT)
     transcript = run(setting, "hsr_bench", ["run", "--transcript"], text)[1]
-    rows = [("hsr_bench", ["run"], text), ("hsr_bench", ["run", "--transcript"], text), ("hsr_bench", ["audit"], transcript)]
+    rows = [("hsr_bench", ["run"], text), ("hsr_bench", ["run", "--transcript"], text), ("hsr_bench", ["audit"], transcript), ("hsr_bench", ["certify"], text)]
     rows += [("hsr_view", ["picture", "--names", str(name)], transcript), ("hsr_plan", ["--check"], text)]
     rows += [("hsr_bench", ["threads"], text)] * (path.stem in THREADED)
     return [Row(f"{program} {words[0]}: {name}", program, words, given) for program, words, given in rows]

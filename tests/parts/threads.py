@@ -1,4 +1,5 @@
-"""Random scenarios by `threads --transcript`: each text is audited, and what no order of threads changes is compared."""
+"""Random scenarios by `threads --transcript`: each text is audited, and what no order of threads changes is compared. Of those that are certified
+in any order threads have to be certified."""
 import contextlib
 import io
 
@@ -11,10 +12,10 @@ COUNT, EACH = 100, 10
 
 def try_seeds(setting, first, after):
     tally = Tally()
-    for seed in range(first, after):
+    for seed, tried in ((seed, tried) for seed in range(first, after) for tried in (by_threads.try_one, by_threads.try_order)):
         said = io.StringIO()
         with contextlib.redirect_stdout(said):
-            how = by_threads.try_one(setting.programs["hsr_bench"], seed)
+            how = tried(setting.programs["hsr_bench"], seed)
         tally.kinds[how] += 1
         tally.count("threads", said.getvalue())
     return tally

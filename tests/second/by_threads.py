@@ -1,4 +1,5 @@
-"""Runs random scenarios by `threads --transcript`, audits each text by `audit`, and compares what no order of threads changes.
+"""Runs random scenarios by `threads --transcript`, audits each text by `audit`, and compares what no order of threads changes. Of those that
+any_order.py certifies in any order, threads are to be certified.
 
     python3 tests/second/by_threads.py PROGRAM [COUNT [SEED]]
 
@@ -6,8 +7,10 @@ COUNT (300) scenarios, from SEED (1) on, by the generator of compare.py, without
 all with small tables, each step is drained before the next one: then the counts of every node and link, the fault and the kind of the
 doubt have to be those of `run`. In the others each node has sent as often as the scenario says. In all of them each copy that was put was
 taken or lost, each arrival was judged by the worker of its port, each node's ager aged it at the last clock, and `audit` of the text has
-the status of `threads`, and prints the report that tells of the text, with the lines of load and latency that the text tells. A run that hasn't ended after a minute is a failure. Each failure is
-shown; the last line says how many scenarios passed, and the status is 0 if all did.
+the status of `threads`, and prints the report that tells of the text, with the lines of load and latency that the text tells. Where
+any_order.py certifies a scenario with a drain behind it, `threads --network` certifies all its sends; so it is with as many scenarios of
+random_plays.py. A run that hasn't ended after a minute is a failure. Each failure is shown; the last line says how many scenarios passed, and
+the status is 0 if all did.
 """
 import random
 import subprocess
@@ -15,8 +18,10 @@ import sys
 from collections import Counter
 from itertools import accumulate
 
+import any_order
 import compare
 import model
+import random_plays
 
 SECONDS = 60
 PORTS = {"A": 0, "B": 1, "C": 2, "D": 3, "I": 2, "P": 0}  # by their letters
@@ -151,6 +156,32 @@ def load_and_latency(text):
     return model.load_lines(channels) + model.latency_lines(came, moments)
 
 
+def look_at_order(program, made, table):
+    """Whether a scenario is certified in any order, with a drain behind it. Then threads have to be certified by the audit of networks."""
+    made = {**made, "step": [*made["step"], {"do": "drain"}]}
+    line = any_order.certify(made, table)
+    if any_order.is_certified(line):
+        flags, wanted = ["--network", "--deliveries", "--table", str(table)], line.removesuffix(" in any order")
+        status, text, fault = bench(program, ["threads", "--transcript", *flags], compare.document(made))
+        expect("threads of a scenario that is certified in any order", (status, fault), (0, ""))
+        look_at_workers(made, text)
+        status, report, fault = bench(program, ["audit", *flags], text)
+        expect("audit of what is certified in any order", (status, report.splitlines()[-1:], fault), (0, [wanted], ""))
+        told = [text for text in report.splitlines() if text.split()[0] in ("send", "deliveries")]
+        expect("deliveries of what is certified in any order", told, ["deliveries {0} complete {0}".format(wanted.split()[1])])
+    return any_order.is_certified(line)
+
+
+def try_order(program, seed):
+    """What became of a scenario that is mostly certified in any order, in some words."""
+    made, table, _ = random_plays.scenario(random.Random(seed), is_timed=False)
+    try:
+        return "in any order: " + ("certified" if look_at_order(program, made, table) else "left out")
+    except Differs as difference:
+        print(f"seed {seed}, in any order: {difference}\n--- input, table {table}\n{compare.document(made)}", flush=True)
+        return "FAILED"
+
+
 def try_one(program, seed):
     """What became of a scenario, in a word or two."""
     chance = random.Random(seed)
@@ -182,6 +213,7 @@ def try_one(program, seed):
         if is_drained:
             expect("status of the run", ran_status, status)
             expect("report", counts(report), counts(ran))
+        look_at_order(program, made, capacity)
         return " ".join(counts(report)[1][: 1 if status == 0 else 2])
     except Differs as difference:
         print(f"seed {seed}: {difference}\n--- input\n{given}", flush=True)
@@ -190,9 +222,9 @@ def try_one(program, seed):
 
 def main():
     program, count, first = sys.argv[1], *(int(word) for word in (sys.argv[2:] + ["300", "1"][len(sys.argv) - 2 :]))
-    seen = Counter(try_one(program, seed) for seed in range(first, first + count))
+    seen = Counter(tried(program, seed) for seed in range(first, first + count) for tried in (try_one, try_order))
     print(", ".join(f"{how}: {many}" for how, many in sorted(seen.items())))
-    print(f"{count - seen['FAILED']} passed, {seen['FAILED']} failed")
+    print(f"{2 * count - seen['FAILED']} passed, {seen['FAILED']} failed")
     sys.exit(seen["FAILED"] > 0)
 
 

@@ -10,7 +10,7 @@ use Rattle.hsr_commands.specs.declared.fault.Status.{Status}
 use Rattle.hsr_commands.specs.declared.fault.Status.TheVariants.{Certified, Fault as Stopped, Doubt, Open}
 use Rattle.hsr_explanation.specs.Lines.{lines_of}
 use Rattle.hsr_options.specs.declared.chosen.Options.{Options}
-use Rattle.hsr_options.specs.declared.chosen.Options.TheVariants.{Node, Run, Threads, Audit}
+use Rattle.hsr_options.specs.declared.chosen.Options.TheVariants.{Node, Run, Threads, Audit, Certify}
 use Rattle.hsr_cli.specs.Options.{IsRefused, Says}
 use Rattle.hsr_cli.specs.declared.fault.OptionFault.{OptionFault}
 use Rattle.hsr_cli.specs.Refusal.{IsTurnedAway, TurnsAway}
@@ -29,6 +29,7 @@ explains (Node node) = false
 explains (Run table showing folder opens b) = b
 explains (Threads table showing folder b) = b
 explains (Audit table scope asked scenario folder b) = b
+explains (Certify table within is_coarse) = false
 
 -- lines of an explanation are written
 abbrev pub AppendsLines : Option (List ℕ) → Option (List ℕ) → Type 0

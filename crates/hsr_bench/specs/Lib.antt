@@ -6,5 +6,6 @@ pub use Rattle.hsr_commands.specs.ScenarioRun
 pub use Rattle.hsr_commands.specs.OpenRun
 pub use Rattle.hsr_commands.specs.ThreadsRun
 pub use Rattle.hsr_commands.specs.AuditRun
+pub use Rattle.hsr_certifying.specs.Certifying
 pub use Rattle.hsr_table_size.specs.Sizes
 pub use Rattle.hsr_cli.specs.Options

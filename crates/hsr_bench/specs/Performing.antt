@@ -7,6 +7,7 @@ use Rattle.hsr_text.specs.Lines.{lines_of}
 use Rattle.hsr_text.specs.Whole.{IsWhole}
 use Rattle.hsr_given.specs.Unnamed.{no_text}
 use Rattle.hsr_given.specs.declared.unnamed.Unnamed.TheVariants.{NoFile}
+use Rattle.hsr_certifying.specs.Certifying.{CertifyEnds}
 use Rattle.hsr_commands.specs.AuditRun.{AuditEnds, entries_for}
 use Rattle.hsr_commands.specs.Naming.{names_in}
 use Rattle.hsr_commands.specs.Output.{Ended, chosen_output}
@@ -17,7 +18,7 @@ use Rattle.hsr_commands.specs.Shown.{KeepsAll, Outputs, text_if}
 use Rattle.hsr_commands.specs.ThreadsRun.{ThreadsEnds}
 use Rattle.hsr_commands.specs.declared.audit.AuditShowing.{AuditShowing}
 use Rattle.hsr_options.specs.declared.chosen.Options.{Options}
-use Rattle.hsr_options.specs.declared.chosen.Options.TheVariants.{Node, Run, Threads, Audit}
+use Rattle.hsr_options.specs.declared.chosen.Options.TheVariants.{Node, Run, Threads, Audit, Certify}
 use Rattle.hsr_commands.specs.declared.fault.Fault.{Fault}
 use Rattle.hsr_commands.specs.declared.fault.Fault.TheVariants.{Names, Memory}
 use Rattle.hsr_commands.specs.declared.fault.Status.{Status}
@@ -62,8 +63,8 @@ abbrev pub AuditEndsAt : ℕ → AuditShowing → List ℕ → (List ℕ → Opt
 AuditEndsAt capacity audit text files None before after status = AuditEnds capacity audit text before after status
 AuditEndsAt capacity audit text files (Some path) before after status = EndsNamed capacity audit text (files path.now) before after status
 
--- the lines of a text are answered, or it is run as a scenario, alone or in threads, or audited as a transcript; each with tables of
--- the chosen size, an audit perhaps of the one that its text tells
+-- the lines of a text are answered, or it is run as a scenario, alone or in threads, or audited as a transcript, or a scenario is judged in
+-- any order; each with tables of the chosen size, an audit perhaps of the one that its text tells
 abbrev pub Performs : Options → List ℕ → (List ℕ → Option (List ℕ)) → Outputs → Outputs → Status → Type 0
 Performs (Node node) text files before after status = Ended before.written after.written (chosen_output node (lines_of text)) status × Puts before.put after.put []
 Performs (Run table showing folder shows_open explains) text files before after status =
@@ -72,3 +73,5 @@ Performs (Threads table showing folder explains) text files before after status 
     ThreadsEnds (capacity_of table) showing (text_if folder) (scenario_of text) (names_in text) before after status
 Performs (Audit table scope asked scenario folder explains) text files before after status =
     AuditEndsAt (entries_for table text) (record { scope = scope; asked = asked; scenario = None; folder = folder }) text files scenario before after status
+Performs (Certify table within is_coarse) text files before after status =
+    CertifyEnds (record { table = table; within = within; is_coarse = is_coarse }) (scenario_of text) before.written after.written status × Puts before.put after.put []

@@ -52,7 +52,7 @@ fn explains(chosen: &Options<'_>) -> bool
     ensures { result ≡ explains chosen.now }
 {
     match chosen {
-        Options::Node(_) => false,
+        Options::Node(_) | Options::Certify { .. } => false,
         Options::Run { explains, .. }
         | Options::Threads { explains, .. }
         | Options::Audit { explains, .. } => *explains,

@@ -7,6 +7,7 @@ ghost use Rattle.hsr_commands.specs.declared.fault.Fault.TheVariants.{Memory, Na
 ghost use Rattle.hsr_commands.specs.declared.fault.Status.TheVariants.{Fault as Stopped};
 ghost use Rattle.hsr_given.specs.declared.unnamed.Unnamed.TheVariants.{NoFile};
 
+use hsr_certifying::{Question, certify_run};
 use hsr_commands::{
     AuditShowing, Fault, Notes, Status, audit_run, node_run, scenario_run, threads_run,
 };
@@ -87,8 +88,8 @@ fn audit_named<R: Read, W: Write, D: Disk>(
     }
 }
 
-/// Does what is chosen: answers the lines of a text as one node, runs the scenario that it means, alone or in threads, or audits the
-/// transcript that it is. The scenario whose names an audit takes is read from a file before the transcript is. `notes` then has what more there is to say, where that is asked for.
+/// Does what is chosen: answers the lines of a text as one node, runs the scenario that it means, alone or in threads, audits the
+/// transcript that it is, or says of the scenario that it means whether it certifies delivery in any order. The scenario whose names an audit takes is read from a file before the transcript is. `notes` then has what more there is to say, where that is asked for.
 #[tactic(auto, using(hsr_files::proofs::Puts::none_put))]
 pub fn perform<H: Threads + Wait + Sync, R: Read, W: Write, D: Disk>(
     rt: &H,
@@ -150,6 +151,18 @@ pub fn perform<H: Threads + Wait + Sync, R: Read, W: Write, D: Disk>(
                     audit_named(alloc, reader, writer, disk, *table, audit, path, notes)
                 }
             }
+        }
+        Options::Certify {
+            table,
+            within,
+            is_coarse,
+        } => {
+            let question = Question {
+                table: *table,
+                within: *within,
+                is_coarse: *is_coarse,
+            };
+            certify_run(alloc, reader, writer, question)
         }
     }
 }

@@ -1,7 +1,8 @@
 -- What a parse found, by the walk of its command.
 use Rattle.std.proofs.Common.{◌≡◌, ◌≢◌, ◌<◌, inl, inr, List, [], ◌∷◌, length, Option, Some, None, IfNone, IfSome, refl, sym, ap, subst, ◌∙◌, codes, arith, Bool, true, false}
 use Rattle.clap.specs.Words.{App, Row, Text, fault_of, first_of, is_simple, is_simple_and_free, subcommand_of}
-use Rattle.hsr_cli.specs.Options.{Chosen, ChosenIn, IsAsked, IsBench, IsForm, IsNode, IsRefused, IsShowing, IsTable, IsTableChoice, IsTaken, Says, SaysNothing, flag_text, mac_usage}
+use Rattle.hsr_cli.specs.Options.{Chosen, ChosenIn, IsAsked, IsBench, IsForm, IsNode, IsRefused, IsShowing, IsTable, IsTableChoice, IsTaken, Says, SaysNothing, flag_text, silent_usage_in}
+use Rattle.hsr_cli.specs.Within.{IsWithin}
 use Rattle.hsr_frame.specs.Words.{mode_of, mode_word}
 use Rattle.hsr_frame.specs.declared.node.Mode.{Mode}
 use Rattle.hsr_frame.specs.declared.node.Mode.TheVariants.{H, N, U}
@@ -21,7 +22,7 @@ use Rattle.hsr_options.specs.declared.chosen.Asked.{Asked}
 use Rattle.hsr_options.specs.declared.chosen.TableChoice.{TableChoice}
 use Rattle.hsr_options.specs.declared.chosen.TableChoice.TheVariants.{Given, Told}
 use Rattle.hsr_options.specs.declared.chosen.Options.{Options}
-use Rattle.hsr_options.specs.declared.chosen.Options.TheVariants.{Node, Run, Threads, Audit}
+use Rattle.hsr_options.specs.declared.chosen.Options.TheVariants.{Node, Run, Threads, Audit, Certify}
 
 -- equal look-ups choose the same
 asked_same : (f g : Text → Option Text) (asked : Asked) → ((id : Text) → f id ≡ g id) → IsAsked f asked → IsAsked g asked
@@ -58,6 +59,8 @@ chosen_same name f g (Audit table scope asked scenario folder explains) e h = (
   sym (e (codes "csv")) ∙ h.5,
   sym (e (codes "explain")) ∙ h.6,
 )
+chosen_same name f g (Certify table within is_coarse) e h =
+    (h.0, table_same f g table e h.1, subst (λ word. IsWithin word within) (e (codes "within")) h.2, sym (e (codes "coarse")) ∙ h.3)
 
 -- without a flag for the transcript nothing is to be written
 pub no_form : (found : Text → Option Text) → ((b : Bool) → found (codes "transcript") ≢ Some (flag_text b)) → (form : Form) → ¬ IsForm found form
@@ -93,7 +96,7 @@ faulty [] app text h is some = absurd (omega arith)
 faulty (w ∷ ws) app text h is some = (app, is, inl some)
 
 pub silent : (words : List Text) (app : App) (text : Text) → 0 < length words → IsBench app → fault_of app words ≡ [] → SaysNothing (subcommand_of app words)
-    → text ≡ mac_usage → IsRefused words text
+    → text ≡ silent_usage_in (subcommand_of app words) → IsRefused words text
 silent [] app text h is none nothing said = absurd (omega arith)
 silent (w ∷ ws) app text h is none nothing said = (app, is, inr (none, nothing, said))
 
@@ -161,6 +164,7 @@ no_run name found is none (Audit table scope asked scenario folder explains) h =
     let one : length name ≡ 3 = ap length is in
     let other : length name ≡ 5 = ap length h.0 in
     absurd (omega (arith, one, other))
+no_run name found is none (Certify table within is_coarse) h = none table h.1
 
 pub no_threads : (name : Text) (found : Text → Option Text) → name ≡ codes "threads" → ((t : TableSize) → ¬ IsTable found t) → (o : Options) → ¬ Chosen name found o
 no_threads name found is none (Node node) h = none node.table h.1.3
@@ -170,6 +174,17 @@ no_threads name found is none (Audit table scope asked scenario folder explains)
     let one : length name ≡ 7 = ap length is in
     let other : length name ≡ 5 = ap length h.0 in
     absurd (omega (arith, one, other))
+no_threads name found is none (Certify table within is_coarse) h = none table h.1
+
+pub no_certify : (name : Text) (found : Text → Option Text) → name ≡ codes "certify" → ((t : TableSize) → ¬ IsTable found t) → (o : Options) → ¬ Chosen name found o
+no_certify name found is none (Node node) h = none node.table h.1.3
+no_certify name found is none (Run table showing folder opens explains) h = none table h.1
+no_certify name found is none (Threads table showing folder explains) h = none table h.1
+no_certify name found is none (Audit table scope asked scenario folder explains) h =
+    let one : length name ≡ 7 = ap length is in
+    let other : length name ≡ 5 = ap length h.0 in
+    absurd (omega (arith, one, other))
+no_certify name found is none (Certify table within is_coarse) h = none table h.1
 
 -- what chooses no size, and isn't the word for the transcript's, chooses nothing for an audit
 pub no_choice : (found : Text → Option Text) → ((t : TableSize) → ¬ IsTable found t) → found (codes "table") ≢ Some (codes "auto") → (choice : TableChoice) → ¬ IsTableChoice found choice

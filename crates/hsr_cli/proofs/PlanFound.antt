@@ -6,34 +6,45 @@ use Rattle.clap.proofs.WalkLemmas.{first_value-rows}
 use Rattle.hsr_table_size.specs.Sizes.{table_of}
 use Rattle.hsr_table_size.specs.declared.size.TableSize.{TableSize}
 use Rattle.hsr_cli.specs.declared.task.Task.{Task}
-use Rattle.hsr_cli.specs.Choices.{Chooses, Chosen, ChosenAlone, ChosenBefore, IsPlanner, IsTable, sub_values, values}
+use Rattle.hsr_cli.specs.declared.task.Task.TheVariants.{Plan, Check, Sweep, Certify}
+use Rattle.hsr_cli.specs.Within.{IsWithin}
+use Rattle.hsr_cli.specs.Choices.{Chooses, Chosen, ChosenAlone, ChosenBefore, IsFaults, IsMoment, IsPlanner, IsTable, sub_values, values}
 
 -- ---- a subcommand
 
 -- equal values choose the same
-before_same : (check check' table table' moment moment' : Option Text) (name : Text) (task : Task) → check ≡ check' → table ≡ table' → moment ≡ moment'
-    → ChosenBefore check table name moment task → ChosenBefore check' table' name moment' task
-before_same check check' table table' moment moment' name task c t m h =
-    subst (λ x. ChosenBefore check' table' name x task) m (subst (λ x. ChosenBefore check' x name moment task) t (subst (λ x. ChosenBefore x table name moment task) c h))
+before_same : (check check' table table' : Option Text) (name : Text) (f g : Text → Option Text) (task : Task) → check ≡ check' → table ≡ table' → ((id : Text) → f id ≡ g id)
+    → ChosenBefore check table name f task → ChosenBefore check' table' name g task
+before_same check check' table table' name f g (Plan size) c t e h = h
+before_same check check' table table' name f g Check c t e h = h
+before_same check check' table table' name f g (Sweep at) c t e h = (sym c ∙ h.0, sym t ∙ h.1, h.2, subst (λ x. IsMoment x at) (e (codes "at-us")) h.3)
+before_same check check' table table' name f g (Certify size within faults) c t e h = (
+  sym c ∙ h.0,
+  sym t ∙ h.1,
+  h.2,
+  subst (λ x. IsTable x size) (e (codes "table")) h.3,
+  subst (λ x. IsWithin x within) (e (codes "within")) h.4,
+  subst (λ x. IsFaults (g (codes "sweep")) x faults) (e (codes "pairs")) (subst (λ x. IsFaults x (f (codes "pairs")) faults) (e (codes "sweep")) h.5),
+)
 
 alone_same : (check check' table table' : Option Text) (task : Task) → check ≡ check' → table ≡ table' → ChosenAlone check table task → ChosenAlone check' table' task
 alone_same check check' table table' task c t h = subst (λ x. ChosenAlone check' x task) t (subst (λ x. ChosenAlone x table task) c h)
 
 chosen_same : (f g : Text → Option Text) (sub : Option (Text × (Text → Option Text))) (task : Task) → ((id : Text) → f id ≡ g id) → Chosen f sub task → Chosen g sub task
 chosen_same f g None task e h = alone_same _ _ _ _ task (e (codes "check")) (e (codes "table")) h
-chosen_same f g (Some sub) task e h = before_same _ _ _ _ _ _ sub.0 task (e (codes "check")) (e (codes "table")) refl h
+chosen_same f g (Some sub) task e h = before_same _ _ _ _ sub.0 sub.1 sub.1 task (e (codes "check")) (e (codes "table")) (λ id. refl) h
 
-pub chosen_from : (found : Text → Option Text) (sub : Option (Text × List Row)) (check table moment : Option Text) (name : Text) (rows : List Row) (task : Task)
-    → sub ≡ Some (name, rows) → check ≡ found (codes "check") → table ≡ found (codes "table") → moment ≡ first_of (codes "at-us") rows
-    → ChosenBefore check table name moment task → Chosen found (sub_values sub) task
-chosen_from found sub check table moment name rows task s c t m h =
-    subst (λ x. Chosen found (sub_values x) task) (sym s) (before_same _ _ _ _ _ _ name task c t m h)
+pub chosen_from : (found : Text → Option Text) (sub : Option (Text × List Row)) (check table : Option Text) (name : Text) (inner : Text → Option Text) (rows : List Row) (task : Task)
+    → sub ≡ Some (name, rows) → check ≡ found (codes "check") → table ≡ found (codes "table") → ((id : Text) → inner id ≡ first_of id rows)
+    → ChosenBefore check table name inner task → Chosen found (sub_values sub) task
+chosen_from found sub check table name inner rows task s c t e h =
+    subst (λ x. Chosen found (sub_values x) task) (sym s) (before_same _ _ _ _ name inner (values rows) task c t e h)
 
-pub chosen_to : (found : Text → Option Text) (sub : Option (Text × List Row)) (check table moment : Option Text) (name : Text) (rows : List Row) (task : Task)
-    → sub ≡ Some (name, rows) → check ≡ found (codes "check") → table ≡ found (codes "table") → moment ≡ first_of (codes "at-us") rows
-    → Chosen found (sub_values sub) task → ChosenBefore check table name moment task
-chosen_to found sub check table moment name rows task s c t m h =
-    before_same _ _ _ _ _ _ name task (sym c) (sym t) (sym m) (subst (λ x. Chosen found (sub_values x) task) s h)
+pub chosen_to : (found : Text → Option Text) (sub : Option (Text × List Row)) (check table : Option Text) (name : Text) (inner : Text → Option Text) (rows : List Row) (task : Task)
+    → sub ≡ Some (name, rows) → check ≡ found (codes "check") → table ≡ found (codes "table") → ((id : Text) → inner id ≡ first_of id rows)
+    → Chosen found (sub_values sub) task → ChosenBefore check table name inner task
+chosen_to found sub check table name inner rows task s c t e h =
+    before_same _ _ _ _ name (values rows) inner task (sym c) (sym t) (λ id. sym (e id)) (subst (λ x. Chosen found (sub_values x) task) s h)
 
 -- ---- the words
 

@@ -10,7 +10,10 @@ use Rattle.hsr_table_size.specs.declared.size.TableSize.{TableSize}
 use Rattle.hsr_table_size.specs.declared.size.TableSize.TheVariants.{Large}
 use Rattle.hsr_cli.specs.declared.plan_words.TheConstants.{TOGETHER}
 use Rattle.hsr_cli.specs.declared.task.Task.{Task}
-use Rattle.hsr_cli.specs.declared.task.Task.TheVariants.{Plan, Check, Sweep}
+use Rattle.hsr_cli.specs.declared.task.Task.TheVariants.{Plan, Check, Sweep, Certify}
+use Rattle.hsr_cli.specs.declared.task.Faults.{Faults}
+use Rattle.hsr_cli.specs.declared.task.Faults.TheVariants.{None as NoFaults, One, Two}
+use Rattle.hsr_cli.specs.Within.{IsWithin}
 
 -- ---- the command line
 
@@ -25,22 +28,33 @@ ListsTables tables = map (λ s. s.now) tables.now ≡ table_words
 abbrev pub table_rule : Listed → Rule
 table_rule tables = record (new_rule (codes "table")) { long = Some (codes "table"); parser = Some (Names tables) }
 
--- `--check`, which takes no value
-abbrev pub check_rule : Rule
-check_rule = record (new_rule (codes "check")) { long = Some (codes "check"); action = Some SetTrue }
+-- a flag: a word that takes no value
+abbrev pub flag_rule : Text → Rule
+flag_rule name = record (new_rule name) { long = Some name; action = Some SetTrue }
 
 -- `--at-us` of `sweep`, with its default
 abbrev pub at_rule : Rule
 at_rule = record (new_rule (codes "at-us")) { long = Some (codes "at-us"); defaults = codes "0" ∷ [] }
 
+-- `--within` of `certify`
+abbrev pub within_rule : Rule
+within_rule = record (new_rule (codes "within")) { long = Some (codes "within"); value_names = 1 }
+
 abbrev pub sweep_app : App
 sweep_app = with_rule (new_app (codes "sweep")) at_rule
+
+abbrev pub certify_app : Listed → App
+certify_app tables =
+    with_rule (with_rule (with_rule (with_rule (new_app (codes "certify")) (table_rule tables)) within_rule) (flag_rule (codes "sweep"))) (flag_rule (codes "pairs"))
 
 abbrev pub top_app : App
 top_app = record { top = record (new_app (codes "hsr_plan")).top { no_binary_name = true; has_version = true }; subs = [] }
 
+abbrev pub alone_app : Listed → App
+alone_app tables = with_rule (with_rule top_app (table_rule tables)) (flag_rule (codes "check"))
+
 abbrev pub plan_app : Listed → App
-plan_app tables = with_subcommand (with_rule (with_rule top_app (table_rule tables)) check_rule) sweep_app.top
+plan_app tables = with_subcommand (with_subcommand (alone_app tables) sweep_app.top) (certify_app tables).top
 
 -- ---- what is chosen
 
@@ -54,22 +68,32 @@ abbrev pub IsMoment : Option Text → ℕ → Type 0
 IsMoment None at = ⊥
 IsMoment (Some word) at = (decimal_of word ≡ Some at) × (at ≤ 2 ^ 40)
 
+-- each fault of `--sweep` is one link or node, and of `--pairs` one or two; they exclude one another
+abbrev pub IsFaults : Option Text → Option Text → Faults → Type 0
+IsFaults sweep pairs NoFaults = (sweep ≡ Some (codes "false")) × (pairs ≡ Some (codes "false"))
+IsFaults sweep pairs One = (sweep ≡ Some (codes "true")) × (pairs ≡ Some (codes "false"))
+IsFaults sweep pairs Two = (sweep ≡ Some (codes "false")) × (pairs ≡ Some (codes "true"))
+
 -- what `--check` and `--table` choose alone: a plan, with tables of some size, or a check, where no size is named
 abbrev pub ChosenAlone : Option Text → Option Text → Task → Type 0
 ChosenAlone check table (Plan size) = (check ≡ Some (codes "false")) × IsTable table size
 ChosenAlone check table Check = (check ≡ Some (codes "true")) × (table ≡ None)
 ChosenAlone check table (Sweep at) = ⊥
+ChosenAlone check table (Certify size within faults) = ⊥
 
--- and before a subcommand of that name, with its moment: a sweep, where neither a check is asked for nor a size is named
-abbrev pub ChosenBefore : Option Text → Option Text → Text → Option Text → Task → Type 0
-ChosenBefore check table name moment (Plan size) = ⊥
-ChosenBefore check table name moment Check = ⊥
-ChosenBefore check table name moment (Sweep at) = (check ≡ Some (codes "false")) × (table ≡ None) × (name ≡ codes "sweep") × IsMoment moment at
+-- and before a subcommand of that name, with its values: a sweep or a verdict, where neither a check is asked for nor a size is named
+abbrev pub ChosenBefore : Option Text → Option Text → Text → (Text → Option Text) → Task → Type 0
+ChosenBefore check table name found (Plan size) = ⊥
+ChosenBefore check table name found Check = ⊥
+ChosenBefore check table name found (Sweep at) = (check ≡ Some (codes "false")) × (table ≡ None) × (name ≡ codes "sweep") × IsMoment (found (codes "at-us")) at
+ChosenBefore check table name found (Certify size within faults) =
+    (check ≡ Some (codes "false")) × (table ≡ None) × (name ≡ codes "certify") × IsTable (found (codes "table")) size
+    × IsWithin (found (codes "within")) within × IsFaults (found (codes "sweep")) (found (codes "pairs")) faults
 
 -- what is chosen by the values that stand before a subcommand, and by its name and its values, if there is one
 abbrev pub Chosen : (Text → Option Text) → Option (Text × (Text → Option Text)) → Task → Type 0
 Chosen found None task = ChosenAlone (found (codes "check")) (found (codes "table")) task
-Chosen found (Some sub) task = ChosenBefore (found (codes "check")) (found (codes "table")) sub.0 (sub.1 (codes "at-us")) task
+Chosen found (Some sub) task = ChosenBefore (found (codes "check")) (found (codes "table")) sub.0 sub.1 task
 
 -- the values in rows
 abbrev pub values : List Row → Text → Option Text

@@ -1,3 +1,4 @@
+pub mod Within
 pub mod Options
 pub mod Choices
 pub mod Refusal

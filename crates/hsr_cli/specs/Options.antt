@@ -1,5 +1,6 @@
 -- What the arguments of hsr_bench say: the values that clap's walk of this command finds.
-use Rattle.std.specs.Prelude.{◌≡◌, ◌≢◌, ◌⊎◌, ⊤, ℕ, Bool, true, false, List, [], ◌∷◌, map, Option, Some, None, option_map, Ok, codes}
+use Rattle.std.specs.Prelude.{◌≡◌, ◌≢◌, ◌⊎◌, ⊤, ℕ, Bool, true, false, List, [], ◌∷◌, map, Option, Some, None, option_map, Ok, codes, if◌then◌else◌}
+use Rattle.std.specs.Str.{bytes_eq}
 use Rattle.std.specs.Borrow.{Bor}
 use Rattle.clap.specs.Words.{App, Row, Rule, Text, new_app, new_rule, with_rule, with_subcommand, subcommand_of, first_of, fault_of}
 use Rattle.clap.specs.declared.builder.ArgAction.TheVariants.{SetTrue}
@@ -24,7 +25,8 @@ use Rattle.hsr_options.specs.declared.chosen.Asked.{Asked}
 use Rattle.hsr_options.specs.declared.chosen.TableChoice.{TableChoice}
 use Rattle.hsr_options.specs.declared.chosen.TableChoice.TheVariants.{Given, Told}
 use Rattle.hsr_options.specs.declared.chosen.Options.{Options}
-use Rattle.hsr_options.specs.declared.chosen.Options.TheVariants.{Node, Run, Threads, Audit}
+use Rattle.hsr_options.specs.declared.chosen.Options.TheVariants.{Node, Run, Threads, Audit, Certify}
+use Rattle.hsr_cli.specs.Within.{IsWithin}
 
 -- ---- the command line
 
@@ -107,14 +109,19 @@ run_app tables = with_rule (playing_app (codes "run") tables) (flag_rule (codes 
 abbrev pub audit_app : Listed → App
 audit_app choices = with_folder (with_rule (with_told (with_rule (new_app (codes "audit")) (table_rule choices))) (word_rule (codes "names")))
 
+-- a verdict plays nothing
+abbrev pub certify_app : Listed → App
+certify_app tables = with_rule (with_rule (with_rule (new_app (codes "certify")) (table_rule tables)) (word_rule (codes "within"))) (flag_rule (codes "coarse"))
+
 abbrev pub top_app : App
 top_app = record { top = record (new_app (codes "hsr_bench")).top { no_binary_name = true; subcommand_required = true; has_version = true }; subs = [] }
 
 abbrev pub bench_app : Listed → Listed → Listed → Listed → Listed → App
 bench_app roles modes tables choices units =
-    with_subcommand (with_subcommand (with_subcommand (with_subcommand top_app (node_app roles modes tables units).top) (run_app tables).top)
+    with_subcommand (with_subcommand (with_subcommand (with_subcommand (with_subcommand top_app (node_app roles modes tables units).top) (run_app tables).top)
     (playing_app (codes "threads") tables).top)
-    (audit_app choices).top
+    (audit_app choices).top)
+    (certify_app tables).top
 
 -- ---- what is chosen
 
@@ -178,6 +185,8 @@ Chosen name found (Threads table showing folder explains) =
 Chosen name found (Audit table scope asked scenario folder explains) =
     (name ≡ codes "audit") × IsTableChoice found table × IsScope found scope × IsAsked found asked × IsGiven found (codes "names") scenario
     × IsGiven found (codes "csv") folder × IsSet found (codes "explain") explains
+Chosen name found (Certify table within is_coarse) =
+    (name ≡ codes "certify") × IsTable found table × IsWithin (found (codes "within")) within × IsSet found (codes "coarse") is_coarse
 
 abbrev pub ChosenIn : Option (Text × List Row) → Options → Type 0
 ChosenIn None o = ⊥
@@ -202,7 +211,7 @@ abbrev pub IsTaken : List Text → Type 0
 IsTaken [] = ⊤
 IsTaken (w ∷ ws) = (app : App) × IsBench app × (fault_of app (w ∷ ws) ≡ [])
 
--- what was found is of no subcommand, or a value of it says nothing, as a `--mac` that is no address or a group's
+-- what was found is of no subcommand, or a value of it says nothing: a `--mac` that is no address or a group's, or a `--within` that is no number in its range
 abbrev pub SaysNothing : Option (Text × List Row) → Type 0
 SaysNothing found = (o : Options) → ¬ ChosenIn found o
 
@@ -210,8 +219,20 @@ SaysNothing found = (o : Options) → ¬ ChosenIn found o
 abbrev pub mac_usage : Text
 mac_usage = codes "usage: --mac\nexplain: --mac takes the address of one node: six pairs of hexadecimal digits with hyphens between, the first pair even (an odd one is a group's), as 02-00-00-00-00-01"
 
+-- and by which a `--within` is
+abbrev pub within_usage : Text
+within_usage = codes "usage: --within\nexplain: --within takes how many microseconds after its send a copy may be under way: a number from 1 to 400000"
+
+-- what says nothing is the `--within` of `certify`, or a `--mac`
+abbrev pub silent_usage : Text → Text
+silent_usage name = if bytes_eq name (codes "certify") then within_usage else mac_usage
+
+abbrev pub silent_usage_in : Option (Text × List Row) → Text
+silent_usage_in None = mac_usage
+silent_usage_in (Some found) = silent_usage found.0
+
 -- arguments are refused by this text: the command finds a fault in them, or finds none, and what it finds says nothing
 abbrev pub IsRefused : List Text → Text → Type 0
 IsRefused [] text = ⊥
 IsRefused (w ∷ ws) text = (app : App) × IsBench app × ((fault_of app (w ∷ ws) ≢ [])
-    ⊎ ((fault_of app (w ∷ ws) ≡ []) × SaysNothing (subcommand_of app (w ∷ ws)) × (text ≡ mac_usage)))
+    ⊎ ((fault_of app (w ∷ ws) ≡ []) × SaysNothing (subcommand_of app (w ∷ ws)) × (text ≡ silent_usage_in (subcommand_of app (w ∷ ws)))))

@@ -10,9 +10,10 @@ ghost use Rattle.clap.specs.Words.{Text, app_of, first_value, found_of, kind_of,
 ghost use Rattle.clap.specs.declared.builder.Command.TheViews.{out-Command as fields_of};
 ghost use Rattle.clap.specs.declared.error.kind.ErrorKind.TheVariants.{OutOfMemory};
 ghost use Rattle.hsr_cli.specs.Refusal.{IfUsage};
-ghost use Rattle.hsr_cli.specs.Options.{Chosen, ChosenIn, IsAsked, IsForm, IsGiven, IsNode, IsRefused, IsScope, IsShowing, IsTable, IsTableChoice, IsTaken, Says, SaysNothing, ListsChoices, ListsModes, ListsRoles, ListsTables, ListsUnits, audit_app, bench_app, flag_rule, flag_text, mac_rule, mode_rule, node_app, role_rule, run_app, table_rule, playing_app, top_app, unit_rule, with_asked, with_folder, with_told, word_rule};
+ghost use Rattle.hsr_cli.specs.Options.{Chosen, ChosenIn, IsAsked, IsForm, IsGiven, IsNode, IsRefused, IsScope, IsShowing, IsTable, IsTableChoice, IsTaken, Says, SaysNothing, ListsChoices, ListsModes, ListsRoles, ListsTables, ListsUnits, audit_app, bench_app, certify_app, flag_rule, flag_text, mac_rule, mode_rule, node_app, role_rule, run_app, silent_usage, silent_usage_in, table_rule, playing_app, top_app, unit_rule, with_asked, with_folder, with_told, word_rule};
 
 use crate::fault::{OptionFault, refused, usage};
+use crate::within::within_of;
 use clap::{Arg, ArgAction, ArgMatches, Command};
 use hsr_frame::{Mac, Mode, NoMemory};
 use hsr_options::{Asked, Form, NodeOptions, NodeRole, Options, Scope, Showing, TableChoice};
@@ -49,6 +50,10 @@ const ASK_HELP: &str = "usage: --help";
 const NO_MAC: &str = "\
 usage: --mac
 explain: --mac takes the address of one node: six pairs of hexadecimal digits with hyphens between, the first pair even (an odd one is a group's), as 02-00-00-00-00-01";
+
+const NO_WITHIN: &str = "\
+usage: --within
+explain: --within takes how many microseconds after its send a copy may be under way: a number from 1 to 400000";
 
 const RUN_ABOUT: &str =
     "Runs the scenario on standard input (< scenario.toml), and reports whether it certifies delivery";
@@ -155,6 +160,42 @@ why: `fault: transcript line <n>` (bad, or not what the node answers), `fault: t
 scenario of the run), `fault: tables` (the folder is not there, or cannot be written).
 
 Example: hsr_bench audit --names scenario.toml --csv tables < run.transcript";
+
+const CERTIFY_ABOUT: &str =
+    "Says of the scenario on standard input whether it certifies delivery in any order of its copies";
+
+const CERTIFY_ENDS: &str = "\
+The scenario is that of `run`, without the steps put, take, judge and inject, and with a drain behind each send. Nothing is
+played. `certified <sends> in any order` says that in whatever order its copies move no step is refused, each order
+comes to an end, and each frame comes exactly once to each node that it is for: `run --network` certifies it, and so it
+would in any other order. A send's span begins at its step and ends at the next drain. Otherwise the line is the first doubt:
+
+`doubt empty` (nothing is sent), `fine <step>` (a put, take, judge or inject), `open <step>` (no drain comes behind this
+send), `mode`, `same-address`, `side <link>` (as with `run --network`), `refused <step>` (some order may refuse it),
+`back <step>` (the clock goes back), `late <step>` (400 ms or more pass in this send's span), `crowded <step>` (its span
+meets the spans of more sends than a table has entries, its own among them), `wrapped <step>` (a node sends more than 65536
+frames), `uncovered <step>` (of this send nothing is certified: it is to a Station's own address, or supervision of a Station
+that is joined with a Station), `queue <step>` (more sends are under way than copies may wait on a link), `cut-off <step>
+<node>` (on each way to this node a link is down at some time in the send's span). Steps, nodes and links are counted from 0.
+
+With --within US only those orders are meant in which no copy is under way any more at a clock step to a moment US or
+more after its send: a span ends there, if that is before the next drain.
+
+With --coarse the steps put, take, judge and inject are left out, and a drain is added at the end; steps are counted in what is left. That
+is for scenarios of `hop_us`, whose plan moves each copy.
+
+Status 0: certified. Status 2: doubted. Status 1: the scenario can't be read, and one line on standard error says why.
+
+Examples: hsr_bench certify < scenario.toml
+          hsr_bench certify --table small --coarse --within 1000 < plan.scenario";
+
+/// How help tells of the bound of spans.
+const WITHIN_HELP: &str =
+    "Means only those orders in which each copy ends so many microseconds after its send, 1 to 400000";
+
+/// How help tells that copies aren't moved by the scenario.
+const COARSE_HELP: &str =
+    "Leaves out the steps put, take, judge and inject, and adds a drain at the end";
 
 fn role_arg<'a>(alloc: Global, roles: &'a [&'a str]) -> Arg<'a>
     ensures rule { rule_of result ≡ role_rule roles.entry }
@@ -389,6 +430,19 @@ fn audit_command<'a>(alloc: Global, choices: &'a [&'a str]) -> Result<Command<'a
     tabling(alloc, two)
 }
 
+/// The command `certify`, which plays nothing.
+fn certify_command<'a>(alloc: Global, tables: &'a [&'a str]) -> Result<Command<'a>, NoMemory>
+    ensures app { IfOk result (λ c. app_of c ≡ certify_app tables.entry) }
+    ensures own { IfOk result (λ c. (fields_of c).has_globals ≡ false) }
+{
+    let command = Command::new(alloc, "certify")
+        .about(CERTIFY_ABOUT)
+        .after_help(CERTIFY_ENDS)
+        .arg(table_arg(alloc, TABLE_HELP, tables))?;
+    let one = command.arg(word_arg(alloc, "within", "US", WITHIN_HELP))?;
+    with_flag(alloc, one, "coarse", COARSE_HELP)
+}
+
 fn top_command<'a>(alloc: Global) -> Result<Command<'a>, NoMemory>
     ensures { IfOk result (λ c. app_of c ≡ top_app) }
 {
@@ -417,12 +471,14 @@ fn bench_command<'a>(
     let run = run_command(alloc, tables)?;
     let threads = playing_command(alloc, "threads", THREADS_ABOUT, THREADS_ENDS, tables)?;
     let audit = audit_command(alloc, choices)?;
+    let certify = certify_command(alloc, tables)?;
     let top = top_command(alloc)?;
     let one = top.subcommand(node)?;
     let two = one.subcommand(run)?;
     let three = two.subcommand(threads)?;
     let four = three.subcommand(audit)?;
-    Ok(four)
+    let five = four.subcommand(certify)?;
+    Ok(five)
 }
 
 #[tactic(auto, using(crate::proofs::BenchFound::table_found, crate::proofs::BenchFound::table_unread, crate::proofs::BenchFound::table_missing))]
@@ -587,7 +643,7 @@ fn node_options(matches: &ArgMatches<'_>) -> Option<NodeOptions>
 }
 
 /// The options of a subcommand.
-#[tactic(auto, using(crate::proofs::BenchFound::no_run, crate::proofs::BenchFound::no_threads))]
+#[tactic(auto, using(crate::proofs::BenchFound::no_run, crate::proofs::BenchFound::no_threads, crate::proofs::BenchFound::no_certify))]
 fn options_of<'a>(name: &str, matches: &ArgMatches<'a>) -> Option<Options<'a>>
     ensures found { IfSome result (Chosen name.now (first_value (found_of matches.now))) }
     ensures none { IfNone result ((o : Options)
@@ -635,6 +691,16 @@ fn options_of<'a>(name: &str, matches: &ArgMatches<'a>) -> Option<Options<'a>>
                 scenario,
                 folder,
                 explains,
+            })
+        }
+        "certify" => {
+            let table = table_of(matches)?;
+            let within = within_of(matches.get_str("within"))?;
+            let is_coarse = flag_of(matches, "coarse")?;
+            Some(Options::Certify {
+                table,
+                within,
+                is_coarse,
             })
         }
         _ => None,
@@ -686,9 +752,30 @@ fn chosen_in<'a>(matches: &ArgMatches<'a>) -> Option<Options<'a>>
     options_of(name, inner)
 }
 
+/// The text by which values of a subcommand of this name are refused that choose nothing.
+fn silent_text(name: &str) -> &'static str
+    ensures { result.now ≡ silent_usage name.now }
+{
+    match name {
+        // All other values are from lists that clap compares.
+        "certify" => NO_WITHIN,
+        _ => NO_MAC,
+    }
+}
+
+/// The text by which a parse is refused that chooses nothing.
+fn silent_parse(matches: &ArgMatches<'_>) -> &'static str
+    ensures { result.now ≡ silent_usage_in (subcommand_rows_of matches.now) }
+{
+    match matches.subcommand() {
+        Some((name, _)) => silent_text(name),
+        None => NO_MAC,
+    }
+}
+
 /// What the arguments after the program's name say: with none, `node` and its defaults. A `--mac` that is no address or
-/// a group's is refused by `usage: --mac` and a line that says what it takes, and other arguments by clap's text, which
-/// isn't empty; `Memory` if allocation fails.
+/// a group's is refused by `usage: --mac` and a line that says what it takes, a `--within` that is no number from 1 to 400000
+/// by `usage: --within` and such a line, and other arguments by clap's text, which isn't empty; `Memory` if allocation fails.
 pub fn options<'a>(alloc: Global, words: &'a [&'a str]) -> Result<Options<'a>, OptionFault>
     ensures found { IfOk result (Says (map (λ s. s.now) words.entry.now)) }
     ensures taken { OnOk result (IsTaken (map (λ s. s.now) words.entry.now)) }
@@ -710,8 +797,7 @@ pub fn options<'a>(alloc: Global, words: &'a [&'a str]) -> Result<Options<'a>, O
     match command.try_get_matches_from(words) {
         Ok(matches) => match chosen_in(&matches) {
             Some(options) => Ok(options),
-            // All other values are from lists that clap compares, so this is about `--mac`.
-            None => Err(usage(alloc, NO_MAC)),
+            None => Err(usage(alloc, silent_parse(&matches))),
         },
         Err(error) => Err(refused(alloc, &error, ASK_HELP)),
     }

@@ -2,6 +2,7 @@
 //!
 //! Its modules, in the order in which to read them:
 //! - `fault`: why arguments are refused, and how that is told
+//! - `within`: the bound of `--within`
 //! - `bench_words`: reads the arguments of hsr_bench
 //! - `task`: what arguments of hsr_plan choose
 //! - `plan_words`: reads the arguments of hsr_plan
@@ -11,8 +12,9 @@ mod bench_words;
 mod fault;
 mod plan_words;
 mod task;
+mod within;
 
 pub use bench_words::options;
 pub use fault::{OptionFault, turn_away, usage};
 pub use plan_words::task_by;
-pub use task::Task;
+pub use task::{Faults, Task};

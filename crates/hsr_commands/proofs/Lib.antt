@@ -1,5 +1,5 @@
 pub mod Turns
-mod Said
+pub mod Said
 pub mod Telling
 mod Opening
 mod Runs

@@ -33,5 +33,7 @@ pub use hsr_explanation::{Explanation, put_explanation};
 pub use hsr_options::{Asked, Form, NodeOptions, Scope, Showing, TableChoice, TimeUnit};
 pub use hsr_table_size::TableSize;
 pub use notes::Notes;
+pub use reading::scenario_of;
 pub use scenario::scenario_run;
+pub use text::read_text;
 pub use threads::threads_run;

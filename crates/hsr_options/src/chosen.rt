@@ -142,4 +142,12 @@ pub enum Options<'a> {
         /// Whether standard error says more of how the audit ended.
         explains: bool,
     },
+    /// Say of a scenario whether it certifies delivery, whatever the order in which its copies move. Nothing is played.
+    Certify {
+        table: TableSize,
+        /// How long after its send a copy may be under way, in microseconds, from 1 to 400000; to the next drain, where it isn't said.
+        within: Option<u64>,
+        /// Whether the steps that move copies are left out, and a drain is added at the end.
+        is_coarse: bool,
+    },
 }

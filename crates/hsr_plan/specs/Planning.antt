@@ -1,27 +1,45 @@
 -- What the planner's program does, over arguments, a text that is read, and two writers: standard output and standard error.
-use Rattle.std.specs.Prelude.{ℕ, ◌≡◌, ◌⊎◌, Bool, List, codes, Option, Result, Ok, Err}
+use Rattle.std.specs.Prelude.{ℕ, ◌≡◌, ◌⊎◌, Bool, List, codes, Option, Some, None, Result, Ok, Err}
 use Rattle.std.specs.Io.KnownBytes.{Appends, Keeps}
 use Rattle.clap.specs.Words.{Text}
 use Rattle.hsr_table_size.specs.Sizes.{capacity_of}
 use Rattle.hsr_cli.specs.Choices.{IsRefused, Says}
+use Rattle.hsr_cli.specs.declared.task.Faults.{Faults}
+use Rattle.hsr_cli.specs.declared.task.Faults.TheVariants as fault
 use Rattle.hsr_cli.specs.declared.task.Task.{Task}
-use Rattle.hsr_cli.specs.declared.task.Task.TheVariants.{Plan, Check, Sweep}
+use Rattle.hsr_cli.specs.declared.task.Task.TheVariants.{Plan, Check, Sweep, Certify}
 use Rattle.hsr_cli.specs.Refusal.{IsTurnedAway, TurnsAway}
 use Rattle.hsr_cli.specs.declared.fault.OptionFault.{OptionFault}
 use Rattle.hsr_plan_scenario.specs.Ends.{Checks, Ends, code_of}
 use Rattle.hsr_plan_scenario.specs.declared.planning.Ending.{Ending}
-use Rattle.hsr_plan_scenario.specs.declared.planning.Ending.TheVariants.{Planned, Refused, Failed, Unwritten}
+use Rattle.hsr_plan_scenario.specs.declared.planning.Ending.TheVariants.{Planned, Doubted, Refused, Failed, Unwritten}
 use Rattle.hsr_plan_sweep.specs.Swept.{SweepEnds}
+use Rattle.hsr_plan_certify.specs.Ends.{CertifyEnds}
+use Rattle.hsr_plan_certify.specs.declared.question.Question.{Question}
+use Rattle.hsr_plan_outages.specs.declared.outages.AtOnce.{AtOnce}
+use Rattle.hsr_plan_outages.specs.declared.outages.AtOnce.TheVariants as at_once
 
--- a text is handled as was chosen: as a plan, for tables of some size; as a scenario, and nothing is written; or as a plan that is swept
+-- how many links or nodes are off at once, where some are
+abbrev pub off_by : Faults → Option AtOnce
+off_by fault.None = None
+off_by fault.One = Some at_once.One
+off_by fault.Two = Some at_once.Two
+
+abbrev pub question_of : Option ℕ → Faults → Question
+question_of within faults = record { within = within; faults = off_by faults }
+
+-- a text is handled as was chosen: as a plan, for tables of some size; as a scenario, and nothing is written; or as a plan that is swept, or
+-- on which a verdict is asked for
 abbrev pub Does : Task → List ℕ → Bool → Option (List ℕ) → Option (List ℕ) → Option (List ℕ) → Option (List ℕ) → Ending → Type 0
 Does (Plan table) text shown held holds told tells ending = Ends (capacity_of table) text held holds told tells ending
 Does Check text shown held holds told tells ending = Checks text told tells ending × Keeps held holds
 Does (Sweep at) text shown held holds told tells ending = SweepEnds text at shown held holds told tells ending
+Does (Certify table within faults) text shown held holds told tells ending = CertifyEnds (capacity_of table) (question_of within faults) text held holds told tells ending
 
 -- of a failed write a line is told, of another end no more than was
 abbrev pub TellsWrite : Ending → Option (List ℕ) → Option (List ℕ) → Type 0
 TellsWrite Planned told tells = Keeps told tells
+TellsWrite Doubted told tells = Keeps told tells
 TellsWrite Refused told tells = Keeps told tells
 TellsWrite Failed told tells = Keeps told tells
 TellsWrite Unwritten told tells = Appends told tells (codes "fault: write\n")

@@ -1,5 +1,5 @@
 //! The planner's program: a plan on standard input, and the scenario that it means on standard output; or a scenario to be
-//! checked, or the lines of a sweep. `main` hands its arguments, its standard streams and its memory over to
+//! checked, the lines of a sweep, or a verdict in any order. `main` hands its arguments, its standard streams and its memory over to
 //! `plan`.
 //!
 //! Its one module, `planning`, has the whole program over arguments, a reader and two writers.

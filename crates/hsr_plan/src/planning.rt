@@ -2,9 +2,11 @@
 ghost use Rattle.std.specs.Prelude.{◌≡◌, IfOk, IfSome, OnOk, map};
 ghost use Rattle.hsr_table_size.specs.Sizes.{capacity_of};
 ghost use Rattle.hsr_plan_scenario.specs.Ends.{Ends, code_of};
-ghost use Rattle.hsr_plan.specs.Planning.{Answers, Does, IsDone, Plans, TellsWrite};
+ghost use Rattle.hsr_plan.specs.Planning.{Answers, Does, IsDone, Plans, TellsWrite, question_of};
 
-use hsr_cli::{OptionFault, Task, task_by, turn_away};
+use hsr_cli::{Faults, OptionFault, Task, task_by, turn_away};
+use hsr_plan_certify::{Question, certify_plan_run};
+use hsr_plan_outages::AtOnce;
 use hsr_plan_scenario::{Ending, check_run, plan_run};
 use hsr_plan_sweep::sweep_run;
 use hsr_table_size::{TableSize, at_size};
@@ -26,6 +28,18 @@ fn planned<R: Read, W: Write, E: Write>(
     at_size!(table => plan_run[_, _, _](alloc, reader, writer, errors))
 }
 
+/// What is asked of a plan by these words.
+fn question_of(within: Option<u64>, faults: Faults) -> Question
+    ensures { result ≡ question_of within faults }
+{
+    let faults = match faults {
+        Faults::None => None,
+        Faults::One => Some(AtOnce::One),
+        Faults::Two => Some(AtOnce::Two),
+    };
+    Question { within, faults }
+}
+
 /// Does what was chosen. Only a sweep on a terminal shows how far it is.
 fn perform<R: Read, W: Write, E: Write>(
     alloc: Global,
@@ -43,6 +57,18 @@ fn perform<R: Read, W: Write, E: Write>(
         Task::Plan { table } => planned(alloc, table, reader, writer, errors),
         Task::Check => check_run(alloc, reader, errors),
         Task::Sweep { at } => sweep_run(alloc, reader, writer, errors, at, is_terminal),
+        Task::Certify {
+            table,
+            within,
+            faults,
+        } => certify_plan_run(
+            alloc,
+            reader,
+            writer,
+            errors,
+            table,
+            question_of(within, faults),
+        ),
     }
 }
 
@@ -94,9 +120,10 @@ fn answer<R: Read, W: Write, E: Write>(
 }
 
 /// Does what the arguments after the program's name choose, over a text that is read, standard output and standard
-/// error, and gives the status of the process: 0 where the scenario or the lines of a sweep were written, or a scenario
-/// is right; 1 after a fault, whose lines are then on standard error, and nothing was written; 3 where the arguments
-/// are refused, by a text on standard error. The error of `errors`, where a line can't be written there.
+/// error, and gives the status of the process: 0 where the scenario or the lines of a sweep were written, a scenario
+/// is right, or a plan is certified; 1 after a fault, whose lines are then on standard error, and nothing was written;
+/// 2 where a doubt of a plan was written; 3 where the arguments are refused, by a text on standard error. The error of
+/// `errors`, where a line can't be written there.
 pub fn plan<'a, R: Read, W: Write, E: Write>(
     alloc: Global,
     words: &'a [&'a str],

@@ -16,7 +16,7 @@ use Rattle.hsr_text.specs.Whole.{IsWhole}
 use Rattle.hsr_plan_scenario.specs.Refusals.{HasNoneIf, IsLeftOpen, IsNoScenario, IsUnplanned, IsUnplayedIf}
 use Rattle.hsr_plan_scenario.specs.Says.{IsScenario, SaysIf, SaysPlan}
 use Rattle.hsr_plan_scenario.specs.declared.planning.Ending.{Ending}
-use Rattle.hsr_plan_scenario.specs.declared.planning.Ending.TheVariants.{Planned, Refused, Failed, Unwritten}
+use Rattle.hsr_plan_scenario.specs.declared.planning.Ending.TheVariants.{Planned, Doubted, Refused, Failed, Unwritten}
 
 -- a text that begins with one over 16 MiB has over 16 MiB
 pub longer : (front rest text : List ℕ) → 2 ^ 24 < length front → text ≡ front ++ rest → 2 ^ 24 < length text
@@ -43,6 +43,7 @@ ends_whole capacity all front held holds told tells Planned (inl same) (text, sa
 ends_whole capacity all front held holds told tells Planned (inr long) (text, says, written, kept) = absurd (none_said capacity (plan_of front) _ text (no_plan front long.0) says.1)
 ends_whole capacity all front held holds told tells Refused (inl same) (none, kept, tells_why) = (subst (IsUnplanned capacity) (sym same) none, kept, tells_why)
 ends_whole capacity all front held holds told tells Refused (inr long) (none, kept, tells_why) = (unplanned capacity front long.1.0 all long.0 long.1.1, kept, tells_why)
+ends_whole capacity all front held holds told tells Doubted whole ends = ends
 ends_whole capacity all front held holds told tells Failed whole ends = ends
 ends_whole capacity all front held holds told tells Unwritten whole ends = ends
 
@@ -69,5 +70,6 @@ scenario_whole all front told tells Refused (inl same) (inl (none, tells_why)) =
 scenario_whole all front told tells Refused (inl same) (inr (cause, left, tells_open)) = inr (cause, subst (λ t. IsLeftOpen t cause) (sym same) left, tells_open)
 scenario_whole all front told tells Refused (inr long) (inl (none, tells_why)) = inl (unplayed front long.1.0 all long.0 long.1.1, tells_why)
 scenario_whole all front told tells Refused (inr long) (inr (cause, left, tells_open)) = absurd (none_meant (meaning front) _ left.0 (no_scenario front long.0) left.1)
+scenario_whole all front told tells Doubted whole checks = checks
 scenario_whole all front told tells Failed whole checks = checks
 scenario_whole all front told tells Unwritten whole checks = elim checks [ ]

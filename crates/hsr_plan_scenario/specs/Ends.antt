@@ -10,10 +10,11 @@ use Rattle.hsr_plan_scenario.specs.Refusals.{IsLeftOpen, IsNoScenario, IsUnplann
 use Rattle.hsr_plan_scenario.specs.Says.{IsScenario, SaysPlan}
 use Rattle.hsr_text.specs.declared.whole.InputFault.{InputFault}
 use Rattle.hsr_plan_scenario.specs.declared.planning.Ending.{Ending}
-use Rattle.hsr_plan_scenario.specs.declared.planning.Ending.TheVariants.{Planned, Refused, Failed, Unwritten}
+use Rattle.hsr_plan_scenario.specs.declared.planning.Ending.TheVariants.{Planned, Doubted, Refused, Failed, Unwritten}
 
 abbrev pub code_of : Ending → ℕ
 code_of Planned = 0
+code_of Doubted = 2
 code_of Refused = 1
 code_of Failed = 1
 code_of Unwritten = 1
@@ -21,6 +22,7 @@ code_of Unwritten = 1
 -- a text was written, or the writer failed
 abbrev pub IsDelivered : Option (List ℕ) → Option (List ℕ) → List ℕ → Ending → Type 0
 IsDelivered held holds text Planned = Appends held holds text
+IsDelivered held holds text Doubted = ⊥
 IsDelivered held holds text Refused = ⊥
 IsDelivered held holds text Failed = ⊥
 IsDelivered held holds text Unwritten = ⊤
@@ -43,6 +45,7 @@ TellsWhy P told tells _ = ⊥
 -- wasn't read, or an allocation failed, and nothing was written, and that told; of a failed write no more is said than that nothing was told.
 abbrev pub Ends : ℕ → List ℕ → Option (List ℕ) → Option (List ℕ) → Option (List ℕ) → Option (List ℕ) → Ending → Type 0
 Ends capacity octets held holds told tells Planned = (text : List ℕ) × SaysPlan capacity octets text × Appends held holds text × Keeps told tells
+Ends capacity octets held holds told tells Doubted = ⊥
 Ends capacity octets held holds told tells Refused = IsUnplanned capacity octets × Keeps held holds × TellsFault told tells
 Ends capacity octets held holds told tells Failed = Keeps held holds × TellsInput told tells
 Ends capacity octets held holds told tells Unwritten = Keeps told tells
@@ -61,6 +64,7 @@ TellsWhyOpen cause told tells _ = ⊥
 -- and that was told; or it wasn't read, or an allocation failed, and that was told.
 abbrev pub Checks : List ℕ → Option (List ℕ) → Option (List ℕ) → Ending → Type 0
 Checks octets told tells Planned = IsScenario octets × Keeps told tells
+Checks octets told tells Doubted = ⊥
 Checks octets told tells Refused = (IsNoScenario octets × TellsFault told tells) ⊎ ((cause : Disagree) × IsLeftOpen octets cause × TellsOpen cause told tells)
 Checks octets told tells Failed = TellsInput told tells
 Checks octets told tells Unwritten = ⊥

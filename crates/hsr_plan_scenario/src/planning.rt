@@ -21,8 +21,10 @@ use std::io::{self, Read, Write};
 /// How it ended.
 #[derive(Clone, Copy, Debug, PartialEq, Eq)]
 pub enum Ending {
-    /// The scenario was written, or is right.
+    /// What was asked for was written, or a scenario is right.
     Planned,
+    /// A verdict was written, and it is a doubt.
+    Doubted,
     /// There is none; a line on the second writer says why, and nothing else was written.
     Refused,
     /// The reader failed, or memory ran out; a line on the second writer says so, and nothing else was written.
@@ -38,6 +40,7 @@ impl Ending {
     {
         match self {
             Ending::Planned => 0,
+            Ending::Doubted => 2,
             Ending::Refused | Ending::Failed | Ending::Unwritten => 1,
         }
     }

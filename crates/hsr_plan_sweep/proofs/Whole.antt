@@ -9,7 +9,7 @@ use Rattle.hsr_plan_text.specs.declared.fault.PlanFault.{PlanFault}
 use Rattle.hsr_plan_scenario.specs.Ends.{TellsFault, TellsInput, TellsWhy}
 use Rattle.hsr_text.specs.Whole.{IsWhole}
 use Rattle.hsr_plan_scenario.specs.declared.planning.Ending.{Ending}
-use Rattle.hsr_plan_scenario.specs.declared.planning.Ending.TheVariants.{Planned, Refused, Failed, Unwritten}
+use Rattle.hsr_plan_scenario.specs.declared.planning.Ending.TheVariants.{Planned, Doubted, Refused, Failed, Unwritten}
 use Rattle.hsr_plan_scenario.proofs.Whole.{longer, no_plan}
 use Rattle.hsr_plan_sweep.specs.Lines.{sweep_text}
 use Rattle.hsr_plan_sweep.specs.Refusals.{IsUnsweepable, IsUnsweptFrom, IsUnsweptIf}
@@ -30,6 +30,7 @@ swept_whole all front moment shown held holds told tells Refused (inl same) (non
 swept_whole all front moment shown held holds told tells Refused (inr long) (none, kept, hidden) =
     let P : Result Plan PlanFault → Type 0 = λ r. IsUnsweptIf r moment in
     (inr (subst P (sym (no_plan all (longer front long.1.0 all long.0 long.1.1))) tt), kept, hidden)
+swept_whole all front moment shown held holds told tells Doubted whole ends = ends
 swept_whole all front moment shown held holds told tells Failed whole ends = ends
 swept_whole all front moment shown held holds told tells Unwritten whole ends = ends
 
@@ -44,6 +45,7 @@ kept_if_hidden shown told tells same hidden = subst (Keeps told) (sym (same hidd
 pub why_if_hidden : (octets : List ℕ) (moment : ℕ) (shown : Bool) (held holds told middle tells : Option (List ℕ)) (why : Type 0) (ending : Ending) → (why → IsUnsweepable octets moment)
     → Keeps held holds → (shown ≡ false → middle ≡ told) → TellsWhy why middle tells ending → SweepEnds octets moment shown held holds told tells ending
 why_if_hidden octets moment shown held holds told middle tells why Planned so kept same none = absurd none
+why_if_hidden octets moment shown held holds told middle tells why Doubted so kept same none = absurd none
 why_if_hidden octets moment shown held holds told middle tells why Refused so kept same (this, fault) = (so this, kept, λ hidden. subst (λ t. TellsFault t tells) (same hidden) fault)
 why_if_hidden octets moment shown held holds told middle tells why Failed so kept same fault = (kept, λ hidden. subst (λ t. TellsInput t tells) (same hidden) fault)
 why_if_hidden octets moment shown held holds told middle tells why Unwritten so kept same none = absurd none

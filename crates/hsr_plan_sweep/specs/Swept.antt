@@ -6,7 +6,7 @@ use Rattle.hsr_plan_text.specs.Meaning.{plan_of}
 use Rattle.hsr_plan_text.specs.Plan.{Plan}
 use Rattle.hsr_plan_scenario.specs.Ends.{TellsFault, TellsInput}
 use Rattle.hsr_plan_scenario.specs.declared.planning.Ending.{Ending}
-use Rattle.hsr_plan_scenario.specs.declared.planning.Ending.TheVariants.{Planned, Refused, Failed, Unwritten}
+use Rattle.hsr_plan_scenario.specs.declared.planning.Ending.TheVariants.{Planned, Doubted, Refused, Failed, Unwritten}
 use Rattle.hsr_plan_sweep.specs.Lines.{sweep_text}
 use Rattle.hsr_plan_sweep.specs.Refusals.{IsUnsweepable}
 use Rattle.hsr_plan_sweep.specs.Sweep.{IsSweep, Sweep}
@@ -30,6 +30,7 @@ IfHidden shown said = shown ≡ false → said
 -- told of a sweep that shows how far it is stays open.
 abbrev pub SweepEnds : List ℕ → ℕ → Bool → Option (List ℕ) → Option (List ℕ) → Option (List ℕ) → Option (List ℕ) → Ending → Type 0
 SweepEnds octets at shown held holds told tells Planned = (text : List ℕ) × IsSwept octets at text × Appends held holds text × IfHidden shown (Keeps told tells)
+SweepEnds octets at shown held holds told tells Doubted = ⊥
 SweepEnds octets at shown held holds told tells Refused = IsUnsweepable octets at × Keeps held holds × IfHidden shown (TellsFault told tells)
 SweepEnds octets at shown held holds told tells Failed = Keeps held holds × IfHidden shown (TellsInput told tells)
 SweepEnds octets at shown held holds told tells Unwritten = IfHidden shown (Keeps told tells)

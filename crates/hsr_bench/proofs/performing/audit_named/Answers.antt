@@ -1,6 +1,5 @@
-use Rattle.std.proofs.Common.{List, Option, subst, ℕ}
+use Rattle.std.proofs.Common.{List, subst, ℕ}
 use Rattle.hsr_bench.specs.Performing.{IsNoText}
-use Rattle.hsr_commands.specs.declared.fault.Fault.{Fault}
 use Rattle.hsr_bench.proofs.Audits.{no_text_so}
 use Rattle.hsr_bench.proofs.performing.audit_named.Goals as goal
 

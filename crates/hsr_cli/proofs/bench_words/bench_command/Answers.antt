@@ -7,4 +7,5 @@ returns c =
     let one = c.in_ok-one.ensures.shape c.in_ok-node.ensures.own ∙ ap₂ with_subcommand c.in_ok-top.ensures (ap (λ (a : App). a.top) c.in_ok-node.ensures.app) in
     let two = c.in_ok-two.ensures.shape c.in_ok-run.ensures.own ∙ ap₂ with_subcommand one (ap (λ (a : App). a.top) c.in_ok-run.ensures.app) in
     let three = c.in_ok-three.ensures.shape c.in_ok-threads.ensures.own ∙ ap₂ with_subcommand two (ap (λ (a : App). a.top) c.in_ok-threads.ensures.app) in
-    c.in_ok-four.ensures.shape c.in_ok-audit.ensures.own ∙ ap₂ with_subcommand three (ap (λ (a : App). a.top) c.in_ok-audit.ensures.app)
+    let four = c.in_ok-four.ensures.shape c.in_ok-audit.ensures.own ∙ ap₂ with_subcommand three (ap (λ (a : App). a.top) c.in_ok-audit.ensures.app) in
+    c.in_ok-five.ensures.shape c.in_ok-certify.ensures.own ∙ ap₂ with_subcommand four (ap (λ (a : App). a.top) c.in_ok-certify.ensures.app)

@@ -1,8 +1,8 @@
-use Rattle.std.proofs.Common.{◌<◌, map, length, subst, arith, List}
+use Rattle.std.proofs.Common.{◌<◌, ◌∙◌, ap, map, length, subst, arith, List}
 use Rattle.std.proofs.lemmas.List.{length-map}
 use Rattle.std.proofs.lemmas.Bool.Decides.{nat_tests}
 use Rattle.clap.specs.Words.{Text, app_of}
-use Rattle.hsr_cli.specs.Options.{ChosenIn, IsBench, SaysNothing}
+use Rattle.hsr_cli.specs.Options.{ChosenIn, IsBench, SaysNothing, silent_usage_in}
 use Rattle.hsr_cli.proofs.BenchFound.{faulty, is_free, is_simple_so, says, silent, taken}
 use Rattle.hsr_cli.proofs.Refusing.{fault_found, usage_weaker}
 use Rattle.hsr_cli.proofs.bench_words.options.Goals as goal
@@ -36,8 +36,10 @@ returns-in-Ok-clause-refused c =
     let more : 0 < length words = simp length-map (omega arith) in
     let is : IsBench app =
     (c.roles.result, c.modes.result, c.tables.result, c.choices.result, c.units.result, c.roles.ensures, c.modes.ensures, c.tables.ensures, c.choices.ensures, c.units.ensures, c.in_ok-command.ensures) in
-    let nothing = subst SaysNothing (c.in-Ok.ensures.matches (is_simple_so app is)).1 c.in-None.ensures.none in
-    usage_weaker c.usage.result _ _ (λ text said. silent words app text more is (c.in-Ok.ensures.kinds (is_free app is)) nothing said) c.usage.ensures
+    let found = (c.in-Ok.ensures.matches (is_simple_so app is)).1 in
+    let nothing = subst SaysNothing found c.in-None.ensures.none in
+    usage_weaker c.usage.result _ _
+    (λ text said. silent words app text more is (c.in-Ok.ensures.kinds (is_free app is)) nothing (said ∙ c.silent_parse.ensures ∙ ap silent_usage_in found)) c.usage.ensures
 
 pub returns-clause-refused : goal.returns-clause-refused
 returns-clause-refused c =

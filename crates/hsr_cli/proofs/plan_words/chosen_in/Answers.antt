@@ -10,15 +10,15 @@ returns-in-Some-clause-found c =
     let name = c.in-Some.name.now in
     let rows = rows_of (found_of c.in-Some.inner.now) in
     let sub = joined (subcommand_rows_of c.args.matches.now) name rows (c.in-Some.ensures.name ∙ sym (first_part _ _ _)) c.in-Some.ensures.rows in
-    some_weaker c.sweep_of.result _ _
-    (λ task h. chosen_from (first_value (found_of c.args.matches.now)) _ _ _ _ name rows task sub c.get_str-check.ensures c.get_str-table.ensures
-    (c.get_str.ensures ∙ first_value-rows (found_of c.in-Some.inner.now) _) h) c.sweep_of.ensures.found
+    some_weaker c.task_before.result _ _
+    (λ task h. chosen_from (first_value (found_of c.args.matches.now)) _ _ _ name (first_value (found_of c.in-Some.inner.now)) rows task sub c.get_str-check.ensures c.get_str-table.ensures
+    (first_value-rows (found_of c.in-Some.inner.now)) h) c.task_before.ensures.found
 
 pub returns-in-Some-clause-none : goal.returns-in-Some-clause-none
 returns-in-Some-clause-none c =
     let name = c.in-Some.name.now in
     let rows = rows_of (found_of c.in-Some.inner.now) in
     let sub = joined (subcommand_rows_of c.args.matches.now) name rows (c.in-Some.ensures.name ∙ sym (first_part _ _ _)) c.in-Some.ensures.rows in
-    none_weaker c.sweep_of.result _ _
-    (λ none task h. none task (chosen_to (first_value (found_of c.args.matches.now)) _ _ _ _ name rows task sub c.get_str-check.ensures c.get_str-table.ensures
-    (c.get_str.ensures ∙ first_value-rows (found_of c.in-Some.inner.now) _) h)) c.sweep_of.ensures.none
+    none_weaker c.task_before.result _ _
+    (λ none task h. none task (chosen_to (first_value (found_of c.args.matches.now)) _ _ _ name (first_value (found_of c.in-Some.inner.now)) rows task sub c.get_str-check.ensures c.get_str-table.ensures
+    (first_value-rows (found_of c.in-Some.inner.now)) h)) c.task_before.ensures.none

@@ -1,0 +1,15 @@
+pub mod Serves
+pub mod Firsts
+pub mod Seeking
+pub mod Sending
+pub mod Rises
+pub mod Turning
+pub mod Brief
+pub mod Lately
+pub mod Heard
+pub mod Meaning
+pub mod Verdicts
+pub mod Stages
+pub mod HasSent
+pub mod RunCertifies
+pub mod AnyOrder

@@ -1,0 +1,7 @@
+pub mod Firsts
+pub mod Tests
+pub mod Served
+pub mod Doubts
+pub mod Tested
+pub mod Verdict
+pub mod AnyOrder

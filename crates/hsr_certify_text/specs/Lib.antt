@@ -1,0 +1,3 @@
+pub mod Coarse
+pub mod Found
+pub mod Words

@@ -1,0 +1,13 @@
+pub mod Words
+pub mod Listed
+pub mod Going
+pub mod Pushed
+pub mod Ending
+pub mod Grouped
+pub mod Sparing
+pub mod Counting
+pub mod Lining
+pub mod Telling
+pub mod Thinning
+pub mod Leaving
+pub mod Serving

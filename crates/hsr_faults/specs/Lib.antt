@@ -1,0 +1,10 @@
+pub mod Fault
+pub mod Sets
+pub mod Onward
+pub mod Search
+pub mod Groups
+pub mod Course
+pub mod CutOff
+pub mod Lines
+pub mod Sweep
+pub mod Law

@@ -1,0 +1,4 @@
+pub mod Told
+pub mod Ending
+pub mod Running
+pub mod Accepted

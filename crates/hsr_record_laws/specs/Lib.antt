@@ -1,0 +1,3 @@
+pub mod Rivals
+pub mod Few
+pub mod Leaves

@@ -1,0 +1,11 @@
+pub mod Shapes
+pub mod Fields
+pub mod Places
+pub mod Kept
+pub mod Sending
+pub mod Cutting
+pub mod Staying
+pub mod Losing
+pub mod Counting
+pub mod Hands
+pub mod StepsOn
