@@ -709,15 +709,16 @@ fn put_crowd(text: &mut Vec<u8>, said: Option<usize>, sends: usize) -> Result<()
     match said {
         Some(_) => Ok(()),
         None => {
-            if sends <= CAPACITY_LIMIT {
-                return Ok(());
+            if sends > CAPACITY_LIMIT {
+                put_between(
+                    text,
+                    "  # the most that there is: up to ",
+                    sends,
+                    " sends may be under way at once",
+                )
+            } else {
+                Ok(())
             }
-            put_between(
-                text,
-                "  # the most that there is: up to ",
-                sends,
-                " sends may be under way at once",
-            )
         }
     }
 }

@@ -141,6 +141,6 @@ pub(crate) fn room(said: Option<usize>, sends: usize) -> usize
 {
     match said {
         Some(said) => said,
-        None => sends.min(ROOM_LIMIT).max(LEAST_ROOM),
+        None => LEAST_ROOM.max(sends.min(ROOM_LIMIT)),
     }
 }
