@@ -3,7 +3,7 @@
     python3 tests/second/random_plans.py PLANNER [COUNT [SEED [BENCH [SECONDS]]]]
 
 COUNT (1000) plans from SEED (1) on, or as many as SECONDS allow. Of each that is no fault: the comments are its title, and how many nodes,
-links and sends the scenario has, with the most sends in 800 ms; `--check` finds it right; the steps are those that the plan means, in order; model.py refuses none of them; and a RedBox sends supervision about a station just where the model's RedBox knows it then. With BENCH
+links and sends the scenario has, with the most sends in 800 ms; the capacity is the plan's own, or what it needs; `--check` finds it right; the steps are those that the plan means, in order; model.py refuses none of them; and a RedBox sends supervision about a station just where the model's RedBox knows it then. With BENCH
 the program plays the scenario too, and refuses no step. Each 20th plan is swept, and the lines compared with what model.py counts. About
 half of the plans move copies by hops: there each copy is put in the moment of the entry that passed it, and taken and judged just a hop
 later, before anything else happens at that moment. Of each that is a fault: the status is 1, nothing is written, and the line says why there
@@ -417,9 +417,32 @@ def check_hops(plan, scenario, table):
     return hops.end()
 
 
+def sends_told(meaning):
+    """The moments of the sends that a plan by hops tells: of a RedBox about each station, known or not."""
+    for at, step in wanted_deeds(meaning):
+        if step["do"] in ("send", "life"):
+            yield from [at] * (1 + len(meaning.redboxes.get(step["node"], [])) * (step["do"] == "life"))
+
+
+def room(plan, scenario):
+    """The capacity that a plan has: where it says none, the most sends that may be under way at once, 64 to 4096."""
+    if "capacity" in plan:
+        return plan["capacity"]
+    most = sends = 0
+    if hop := hop_of(plan):
+        moments, way = list(sends_told(Meaning(plan))), 2 * len(scenario["link"]) * hop
+        most = max((place + 1 - bisect_left(moments, at - way) for place, at in enumerate(moments)), default=0)
+    for step in scenario["step"]:
+        sends = 0 if step["do"] == "drain" else sends + (step["do"] in ("send", "life"))
+        most = max(most, 0 if hop else sends)
+    return max(64, min(most, 4096))
+
+
 def check(plan, scenario, table):
     """What is wrong with a scenario, or None."""
     meaning = Meaning(plan)
+    if scenario["capacity"] != room(plan, scenario):
+        return f"capacity: not {room(plan, scenario)}"
     if [tuple(link["ends"]) for link in scenario["link"]] != list(meaning.ends()):
         return "links"
     if hop_of(plan):

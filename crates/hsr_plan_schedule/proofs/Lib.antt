@@ -4,3 +4,4 @@ pub mod Moments
 pub mod Running
 pub mod Telling
 pub mod Names
+pub mod Young

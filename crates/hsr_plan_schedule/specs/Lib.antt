@@ -7,4 +7,5 @@ pub mod Setting
 pub mod Hearing
 pub mod Orders
 pub mod Naming
+pub mod Room
 pub mod Meaning

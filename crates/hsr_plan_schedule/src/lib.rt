@@ -12,6 +12,7 @@
 //! - `hearing`: what RedBoxes hear of the stations behind them
 //! - `naming`: the names of a plan's streams
 //! - `orders`: the orders of a scenario that tell what happens in a plan
+//! - `room`: how many copies may wait in each direction of a link
 //! - `meaning`: what a plan means
 #![tactic(auto)]
 
@@ -24,6 +25,7 @@ mod naming;
 mod occasion;
 mod occasions;
 mod orders;
+mod room;
 mod senders;
 mod sends;
 mod setting;

@@ -68,7 +68,7 @@ unfoldable pub outline : Members → Result Outline What
 outline ms = do
   _ ← only top_keys ms
   title ← optional faults key.Title None (perhaps (word faults title_of)) ms
-  capacity ← optional faults key.Capacity 64 (between faults 1 4096) ms
+  capacity ← optional faults key.Capacity None (perhaps (between faults 1 4096)) ms
   life ← optional faults key.Life 2000000 milliseconds ms
   until ← optional faults key.Until None (perhaps moment) ms
   moves ← moves_in ms

@@ -32,7 +32,8 @@ pub record Stream : Type 0 where
 
 pub record Outline : Type 0 where
   pub title : Option (List ℕ)
-  pub capacity : ℕ
+  -- where it is said
+  pub capacity : Option ℕ
   pub life : ℕ
   pub until : Option ℕ
   pub moves : Moves

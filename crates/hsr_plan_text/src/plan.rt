@@ -167,8 +167,8 @@ pub struct Event {
 #[derive(Debug, Drop)]
 pub struct Outline {
     pub title: Option<String>,
-    /// How many copies wait in each direction of a link.
-    pub capacity: usize,
+    /// How many copies wait in each direction of a link, where that is said.
+    pub capacity: Option<usize>,
     /// The period of supervision in microseconds; 0 for none.
     // Microseconds, though the text says milliseconds: no crate below knows another unit.
     pub life: u64,

@@ -21,12 +21,9 @@ use crate::streams::{stream, until};
 use crate::table::only;
 use crate::words::{HOP_LIMIT, is_title, moves_of};
 use hsr_tables::LIFE_CHECK;
-use hsr_toml::{NoDocument, between, document_of, needed, number_or, tables_at, text, value};
+use hsr_toml::{NoDocument, between, document_of, needed, tables_at, text, value};
 use std::alloc::Global;
 use toml::{Table, Value};
-
-/// How many copies wait in each direction of a link, where a text doesn't say.
-const CAPACITY: u64 = 64;
 
 /// How many copies may wait in each direction of a link.
 const CAPACITY_LIMIT: u64 = 4096;
@@ -141,13 +138,18 @@ fn title(alloc: Global, table: &Table) -> Result<Option<String>, What>
     }
 }
 
-/// The capacity of a document.
-fn capacity(table: &Table) -> Result<usize, What>
-    ensures { Gives (λ n. n) result (optional faults key.Capacity 64 (between faults 1 4096)
-        (table_view table.now)) }
+/// The capacity of a document, where it says one.
+fn capacity(table: &Table) -> Result<Option<usize>, What>
+    ensures { Gives (λ n. n) result (optional faults key.Capacity None
+        (perhaps (between faults 1 4096)) (table_view table.now)) }
 {
-    let capacity = number_or(CAPACITY, 1, CAPACITY_LIMIT, table, Key::Capacity)?;
-    Ok(capacity as usize)
+    match value(table, Key::Capacity) {
+        None => Ok(None),
+        Some(value) => {
+            let capacity = between(1, CAPACITY_LIMIT, Key::Capacity, value)?;
+            Ok(Some(capacity as usize))
+        }
+    }
 }
 
 /// The period of supervision of a document, in microseconds: that of the standard, where it doesn't say.
@@ -318,7 +320,7 @@ fn text_fault(fault: NoDocument) -> PlanFault
 }
 
 /// The plan that a text is: a document of TOML, of at most 16 MiB, with the keys `title`, `ring` or `rings` (by their keys),
-/// `redbox`, `address`, `mode`, `capacity` (1 to 4096, 64 where it is missing), `life_ms` (2000), `until_us`, `moves`, `hop_us`, and `stream`
+/// `redbox`, `address`, `mode`, `capacity` (1 to 4096), `life_ms` (2000), `until_us`, `moves`, `hop_us`, and `stream`
 /// and `event`, arrays of tables. A fault is the first in this order: the text itself; a key that the document doesn't have; its own
 /// values; streams, then events, by number. Within a table comes a key that it doesn't have, and then key by key what is missing, of
 /// another type or out of its values. `NoMemory` comes where a growth was refused, in place of any other answer. Whether names are
