@@ -30,6 +30,7 @@ pub enum Key {
     Stream,
     Event,
     From,
+    For,
     To,
     /// Written `type`.
     Kind,
@@ -110,6 +111,7 @@ impl Key {
             Key::Stream => "stream",
             Key::Event => "event",
             Key::From => "from",
+            Key::For => "for",
             Key::To => "to",
             Key::Kind => "type",
             Key::Size => "size",
@@ -165,6 +167,8 @@ pub enum Refusal {
     NoLink(Key),
     /// A node sends to itself.
     ToItself(Word),
+    /// The frames of the stream aren't due at who has the name.
+    NotDue(Word),
     /// Nothing says where it ends.
     Endless(Key),
     /// A moment of a key is behind the end, or the moment of a start is the end itself.
