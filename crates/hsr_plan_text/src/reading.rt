@@ -21,7 +21,7 @@ use crate::streams::{stream, until};
 use crate::table::only;
 use crate::words::{HOP_LIMIT, is_title, moves_of};
 use hsr_tables::LIFE_CHECK;
-use hsr_toml::{NoDocument, between, document_of, needed, tables_at, text, value};
+use hsr_toml::{NoDocument, between, document_of, needed, number_or, tables_at, text, value};
 use std::alloc::Global;
 use toml::{Table, Value};
 
