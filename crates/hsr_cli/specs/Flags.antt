@@ -27,4 +27,3 @@ IsSet found name b = found name ≡ Some (flag_text b)
 -- a word is given, or none is
 abbrev pub IsGiven : (Text → Option Text) → Text → Option (Bor Text) → Type 0
 IsGiven found name word = found name ≡ option_map (λ w. w.now) word
-

@@ -10,16 +10,21 @@ ghost use Rattle.clap.specs.Words.{Text, app_of, first_value, found_of, kind_of,
 ghost use Rattle.clap.specs.declared.builder.Command.TheViews.{out-Command as fields_of};
 ghost use Rattle.clap.specs.declared.error.kind.ErrorKind.TheVariants.{OutOfMemory};
 ghost use Rattle.hsr_cli.specs.Refusal.{IfUsage};
-ghost use Rattle.hsr_cli.specs.Options.{Chosen, ChosenIn, IsAsked, IsForm, IsGiven, IsNode, IsRefused, IsScope, IsShowing, IsTable, IsTableChoice, IsTaken, Says, SaysNothing, ListsChoices, ListsModes, ListsRoles, ListsTables, ListsUnits, audit_app, bench_app, certify_app, flag_rule, flag_text, mac_rule, mode_rule, node_app, role_rule, run_app, silent_usage, silent_usage_in, table_rule, playing_app, top_app, unit_rule, with_asked, with_folder, with_told, word_rule};
+ghost use Rattle.hsr_cli.specs.Options.{Chosen, ChosenIn, IsNode, IsRefused, IsTableChoice, IsTaken, Says, SaysNothing, ListsChoices, ListsModes, ListsRoles, ListsUnits, audit_app, bench_app, certify_app, mac_rule, mode_rule, node_app, role_rule, run_app, silent_usage, silent_usage_in, top_app, unit_rule};
 
-use crate::bench_help::{AUDIT_ENDS, CERTIFY_ABOUT, CERTIFY_ENDS, CHOICE_HELP, COARSE_HELP, NAMES_HELP, NODE_LINES, RUN_ABOUT, RUN_ENDS, TABLE_HELP, THREADS_ABOUT, THREADS_ENDS, WITHIN_HELP};
+use crate::bench_help::{
+    AUDIT_ENDS, CERTIFY_ABOUT, CERTIFY_ENDS, CHOICE_HELP, COARSE_HELP, NAMES_HELP, NODE_LINES,
+    RUN_ABOUT, RUN_ENDS, TABLE_HELP, THREADS_ABOUT, THREADS_ENDS, WITHIN_HELP,
+};
 use crate::fault::{OptionFault, refused, usage};
 use crate::flags::{flag_of, with_flag, word_arg};
-use crate::playing::{asked_of, playing_command, scope_of, showing_of, table_arg, table_of, tables, tabling, telling};
+use crate::playing::{
+    asked_of, playing_command, scope_of, showing_of, table_arg, table_of, tables, tabling, telling,
+};
 use crate::within::within_of;
 use clap::{Arg, ArgAction, ArgMatches, Command};
 use hsr_frame::{Mac, Mode, NoMemory};
-use hsr_options::{Asked, Form, NodeOptions, NodeRole, Options, Scope, Showing, TableChoice};
+use hsr_options::{NodeOptions, NodeRole, Options, TableChoice};
 use hsr_table_size::{TableSize, table_words};
 use hsr_text::TimeUnit;
 use hsr_version::VERSION;

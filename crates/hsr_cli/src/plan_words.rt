@@ -11,9 +11,9 @@ ghost use Rattle.hsr_cli.specs.Playing.{playing_app};
 ghost use Rattle.hsr_cli.specs.Refusal.{IfUsage};
 ghost use Rattle.hsr_cli.specs.Choices.{Chosen, ChosenAlone, ChosenBefore, IsCertify, IsFaults, IsRefused, IsRun, IsTable, Says, alone_app, certify_app, plan_app, sub_values, table_rule, top_app};
 
+use crate::bench_help::WITHIN_HELP;
 use crate::fault::{OptionFault, refused, usage};
 use crate::flags::{flag_arg, flag_of, word_arg};
-use crate::bench_help::WITHIN_HELP;
 use crate::plan_help::{ANY_TABLE_HELP, ENDS, RUN_ABOUT, RUN_ENDS, TABLE_HELP};
 use crate::playing;
 use crate::playing::{playing_command, showing_of, tables};
