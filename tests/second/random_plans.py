@@ -64,6 +64,8 @@ def stream_of(chance, senders, targets):
         said["start_us"] = chance.choice([chance.randint(0, 5000), sorted(chance.randint(0, 9000) for _ in range(chance.randint(1, 3)))])
     if chance.random() < 0.5:
         said["count"] = chance.randint(1, 6)
+    if chance.random() < 0.3:
+        said["for"] = chance.choice([said["to"] if said["to"] != GROUP else chance.choice(targets), chance.sample(targets, chance.randint(1, min(3, len(targets))))])
     if chance.random() < 0.03:
         said |= chance.choice([{"start_us": []}, {"start_us": [3, 2]}, {"count": 0}, {"from": []}])
     return said
@@ -184,8 +186,23 @@ class Meaning:
         """The RedBox that a station is behind, or None."""
         return next((box for box in self.boxes if name in self.redboxes[box]), None)
 
+    def node(self, name):
+        """The node that a name is of: of a station its RedBox's Station."""
+        behind = self.behind(name)
+        return f"{behind}-sans" if behind else name
+
     def senders(self, stream):
         return stream["from"] if isinstance(stream["from"], list) else [stream["from"]]
+
+    def receivers(self, stream):
+        """Whom a stream is for, as its `for` says; nobody where there is none."""
+        said = stream.get("for", [])
+        return said if isinstance(said, list) else [said]
+
+    def is_off(self, node, at):
+        """Whether the last event about a node, at a moment or before, put it off."""
+        about = [event for event in self.plan.get("event", []) if event["at_us"] <= at and node in (event.get("off"), event.get("on"))]
+        return bool(about) and "off" in sorted(about, key=lambda event: event["at_us"])[-1]
 
     def reasons(self):
         """Why the plan may mean nothing, each by words of a fault's line."""
@@ -198,9 +215,13 @@ class Meaning:
         yield from self.reasons_of_events()
         for stream in self.plan.get("stream", []):
             target = stream["to"]
-            yield from (f"unknown name {name}:" for name in [*self.senders(stream), target] if name not in [*known, *self.couplers, GROUP])
-            yield from (f"{name} has no address:" for name in [*self.senders(stream), target] if name in self.couplers)
+            yield from (f"unknown name {name}:" for name in [*self.senders(stream), target, *self.receivers(stream)] if name not in [*known, *self.couplers, GROUP])
+            yield from (f"{name} has no address:" for name in [*self.senders(stream), target, *self.receivers(stream)] if name in self.couplers)
             yield from self.reasons_of_stream(stream)
+            for name in self.receivers(stream):
+                is_goal = target == GROUP or {name, target} <= {*known} and self.mac(target) == self.mac(name)
+                if not is_goal or all(self.node(sender) == self.node(name) for sender in self.senders(stream)):
+                    yield f"frames of this stream aren't due at {name}:"
             for name in self.senders(stream):
                 if target in known and name in known and self.mac(target) in map(self.mac, self.redboxes.get(self.behind(name), [name])):
                     yield f"{name} sends to itself"
@@ -454,31 +475,99 @@ def check(plan, scenario, table):
     return None
 
 
-def counted(said):
+def by_names(line, names):
+    """A line of a report of which the nodes are told by their names, and entries by a node's name and their number."""
+    words = line.split(" ")
+    if words[0] == "doubt" and len(words) > 3 or words[:2] == ["budget", "late"]:
+        words[2:] = [f"{names[int(words[2])]}:{words[3]}", *(names[int(word)] for word in words[4:])]
+    return " ".join(words)
+
+
+def outcomes(plan, scenario, world, names):
+    """Each send, and of those that need it who missed it, had it twice, or had it where it wasn't due. It is needed by those whom its stream
+    is for, as far as they are on then; by all, where its stream names none."""
+    meaning, told = Meaning(plan), [iter(titles) for titles in model.streams(scenario)]
+    whom = {title: {meaning.node(name) for name in meaning.receivers(stream)} for title, stream in meaning.streams()}
+    for (number, place), _, (_, *got, _) in world.all_deliveries():
+        at, receivers = world.nodes[number].record[place][1], whom.get(next(told[number]))
+        needs = [not (receivers and name not in receivers or meaning.is_off(name, at)) for name in names]
+        yield (number, place), [[node for node in nodes if needs[node]] for nodes in got]
+
+
+class Count:
     """What a line of a sweep says of a plan's run, by model.py."""
-    ended = subprocess.run([PLANNER], input=said, capture_output=True, text=True, timeout=60)
-    _, _, fault, world = model.run(tomllib.loads(ended.stdout), 512, 1 << 30)
-    *lines, last = world.deliveries()
-    sends, complete = last.split()[1::2]
-    missed, twice = (sum(f" {word} -" not in line for line in lines) for word in ("missed", "twice"))
-    return f"sends {sends} complete {complete} missed {missed} twice {twice} needed {world.needed().split()[1]} {world.network_verdict()}{fault}"
+
+    def __init__(self, said):
+        ended = subprocess.run([PLANNER], input=said, capture_output=True, text=True, timeout=60)
+        scenario = tomllib.loads(ended.stdout)
+        _, _, fault, world = model.run(scenario, 512, 1 << 30)
+        names = [node["name"] for node in scenario["node"]]
+        sends, all_outcomes = zip(*outcomes(tomllib.loads(said), scenario, world, names)) if world.sends() else ((), ())
+        self.sends, self.complete = len(sends), sum(not any(outcome) for outcome in all_outcomes)
+        self.missed, self.twice = (sum(bool(outcome[place]) for outcome in all_outcomes) for place in (0, 1))
+        self.needed, self.budget = int(world.needed().split()[1]), by_names(world.budget(), names)
+        latency, load = world.latency()[-1].split(), world.load()[-1].split()
+        self.latency, self.load = 0 if latency[1] == "none" else int(latency[2]), 0 if load[1] == "none" else int(load[2])
+        self.doubt = by_names(world.network_verdict(), names) + fault
+        if self.doubt.startswith("doubt cut-off "):
+            first = next(((send, outcome[0][0]) for send, outcome in zip(sends, all_outcomes) if outcome[0]), None)
+            self.doubt = f"doubt cut-off {names[first[0][0]]}:{first[0][1]} {names[first[1]]}" if first else "none missed"
+
+    def line(self, limits):
+        """The line behind what was off, with these limits on latency and load."""
+        numbers = f"sends {self.sends} complete {self.complete} missed {self.missed} twice {self.twice} needed {self.needed} {self.budget}"
+        over = ["" if limit is None or number <= limit else f" over {limit}" for number, limit in zip((self.latency, self.load), limits)]
+        return f"{numbers} latency {self.latency}{over[0]} load {self.load}{over[1]} {self.doubt}"
+
+    def is_over(self, limits):
+        return any(limit is not None and number > limit for number, limit in zip((self.latency, self.load), limits))
 
 
-def swept(said, at):
+def cases_of(plan, at, pairs):
+    """All that is off in turn: how many links and nodes, what a line calls it, what the list of single points does, and the events."""
+    meaning = Meaning(plan)
+    ends, nodes = list(meaning.ends()), meaning.names + [f"{box}-sans" for box in meaning.boxes]
+    ones = [(f"link {k} {a} {b}", f"{a}-{b}", f'cut = ["{a}", "{b}"]') for k, (a, b) in enumerate(ends)]
+    ones += [(f"node {k} {name}", name, f'off = "{name}"') for k, name in enumerate(nodes)]
+    events = [f"[[event]]\nat_us = {at}\n{deed}\n" for _, _, deed in ones]
+    yield from ((1, line, point, event) for (line, point, _), event in zip(ones, events))
+    if pairs:
+        for first in range(len(ones)):
+            yield from ((2, f"{ones[first][0]}, {ones[second][0]}", None, events[first] + events[second]) for second in range(first + 1, len(ones)))
+    yield 0, "undisturbed", None, ""
+
+
+def lines_of_sweep(said, at, pairs, part, limits):
+    """The lines of a sweep, and its status."""
+    cases = [*cases_of(tomllib.loads(said), at, pairs)]
+    cases = cases[part[0] - 1 :: part[1]] if part else cases
+    counts = [Count(said + event) for _, _, _, event in cases]
+    whole = [count.complete == count.sends for count in counts]
+    lines = [f"{line} {count.line(limits)}" for (_, line, _, _), count in zip(cases, counts)]
+    status = 2 if any(count.is_over(limits) or off < 2 and not is_whole for (off, _, _, _), count, is_whole in zip(cases, counts, whole)) else 0
+    if part:
+        return lines, status
+    points = [point for (off, _, point, _), is_whole in zip(cases, whole) if off == 1 and not is_whole]
+    lines += [f"single points of failure: {', '.join(points)}" if points else "no single point of failure"]
+    beyond = [count.budget for count in counts if not count.budget.split()[1].isdigit()]
+    budget = beyond[0] if beyond else f"budget {max(int(count.budget.split()[1]) for count in counts)}"
+    return [*lines, f"needed {max(count.needed for count in counts)}", budget], status
+
+
+def swept(said, at, chance):
     """What is wrong with the lines of a sweep, or None."""
-    ended = subprocess.run([PLANNER, "sweep", "--at-us", str(at)], input=said, capture_output=True, text=True, timeout=60)
     plan = tomllib.loads(said)
+    pairs, part = chance.random() < 0.2 and len([*Meaning(plan).ends()]) < 5, chance.choice([None, None, (1, 2), (2, 2), (2, 3), (9, 9)])
+    limits = [chance.choice([None, None, 0, 200]), chance.choice([None, None, 0, 1500])]
+    words = ["--pairs"] * pairs + (["--part", f"{part[0]}/{part[1]}"] if part else [])
+    words += [word for name, limit in zip(("latency", "load"), limits) if limit is not None for word in (f"--limit-{name}", str(limit))]
+    ended = subprocess.run([PLANNER, "sweep", "--at-us", str(at), *words], input=said, capture_output=True, text=True, timeout=300)
     if at > plan.get("until_us", at):
         is_told = ended.returncode == 1 and not ended.stdout and ended.stderr.startswith("fault: plan ") and "until_us" in ended.stderr
         return None if is_told else f"status {ended.returncode}, {ended.stderr}, not that {at} is behind until_us"
-    meaning = Meaning(plan)
-    links, nodes = list(meaning.ends()), meaning.names + [f"{box}-sans" for box in meaning.boxes]
-    event = f"{said}[[event]]\nat_us = {at}\n"
-    wanted = [f"link {k} {a} {b} " + counted(f'{event}cut = ["{a}", "{b}"]\n') for k, (a, b) in enumerate(links)]
-    wanted += [f"node {k} {name} " + counted(f'{event}off = "{name}"\n') for k, name in enumerate(nodes)]
-    wanted += ["undisturbed " + counted(said)]
-    wanted += [f"needed {max(int(line.split(' needed ')[1].split()[0]) for line in wanted)}"]
-    return next((f"{got} and not {want}" for got, want in zip(ended.stdout.splitlines() + [""], wanted + [""]) if got != want), ended.stderr or None)
+    wanted, status = lines_of_sweep(said, at, pairs, part, limits)
+    wrong = next((f"{got} and not {want}" for got, want in zip(ended.stdout.splitlines() + [""], wanted + [""]) if got != want), ended.stderr or None)
+    return wrong or (None if ended.returncode == status else f"status {ended.returncode} and not {status}")
 
 
 def played(scenario, table):
@@ -542,7 +631,7 @@ def one(seed, counts):
         counts["told"] += 1
         counts["by hops"] += hop_of(plan) is not None
         if not wrong and seed % EACH == 0:
-            wrong = swept(said, seed % 3 * 2000)
+            wrong = swept(said, seed % 3 * 2000, random.Random(seed))
             counts["swept"] += 1
     return wrong and f"{said}\nseed {seed}: {wrong}"
 

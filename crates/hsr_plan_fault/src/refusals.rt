@@ -105,6 +105,12 @@ fn put_name(line: &mut Vec<u8>, refusal: &Refusal) -> Result<(), NoMemory> {
             word,
             " sends to itself: another sender or another target",
         ),
+        Refusal::NotDue(word) => put_word(
+            line,
+            "frames of this stream aren't due at ",
+            word,
+            ": for names who is to have them, of a group anyone but the only sender",
+        ),
         _ => put_nobody(line, refusal),
     }
 }

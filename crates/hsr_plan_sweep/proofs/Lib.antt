@@ -1,4 +1,4 @@
-pub mod Counts
 mod Listing
+mod Playing
 mod Uncounted
 mod Whole

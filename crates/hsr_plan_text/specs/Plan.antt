@@ -27,6 +27,8 @@ pub record Timing : Type 0 where
 
 pub record Stream : Type 0 where
   pub from : List (List ℕ)
+  -- who needs it; nobody is named where it is for all that it is due at
+  pub receivers : List (List ℕ)
   pub framing : Framing
   pub timing : Timing
 

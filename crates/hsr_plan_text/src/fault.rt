@@ -29,6 +29,7 @@ pub enum Key {
     Stream,
     Event,
     From,
+    For,
     To,
     /// Written `type`.
     Kind,
@@ -99,6 +100,7 @@ impl Key {
             Key::Stream => "stream",
             Key::Event => "event",
             Key::From => "from",
+            Key::For => "for",
             Key::To => "to",
             Key::Kind => "type",
             Key::Size => "size",
@@ -148,6 +150,8 @@ pub enum Refusal {
     NoLink(Key),
     /// A node sends to itself.
     ToItself(Word),
+    /// The frames of the stream aren't due at who has the name.
+    NotDue(Word),
     /// Nothing says where it ends.
     Endless(Key),
     /// A moment of a key is behind the end, or the moment of a start is the end itself.

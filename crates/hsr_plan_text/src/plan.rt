@@ -123,10 +123,12 @@ impl Model for Timing {
 }
 
 /// Frames that each of some nodes sends again and again.
-/// `from` are the senders, each of which sends all frames.
+/// `from` are the senders, each of which sends all frames; `receivers` are those who need them, and none where they are for all
+/// that they are due at.
 #[derive(Debug, Drop)]
 pub struct Stream {
     pub from: Vec<Word>,
+    pub receivers: Vec<Word>,
     pub framing: Framing,
     pub timing: Timing,
 }
@@ -136,7 +138,7 @@ impl Model for Stream {
 
     ghost Value = { Stream };
 
-    ghost view = { λ s. record { from = s.from.items; framing = s.framing; timing = s.timing } };
+    ghost view = { λ s. record { from = s.from.items; receivers = s.receivers.items; framing = s.framing; timing = s.timing } };
 }
 
 /// An end of a link: a node by its name, and the letter of its port where that is said.
