@@ -72,6 +72,7 @@ fn moved_by_hops<const C: usize>(alloc: Global, told: Meaning, us: u64) -> Resul
     Ok(Meaning {
         nodes: told.nodes,
         topology: told.topology,
+        at_once: told.at_once,
         capacity: told.capacity,
         orders,
         // Each frame that is told is sent, so its stream stays where it is.

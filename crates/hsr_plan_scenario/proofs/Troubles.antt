@@ -17,7 +17,7 @@ use Rattle.hsr_plan_schedule.specs.Meaning.{Meaning, listed}
 use Rattle.hsr_plan_scenario.specs.Refusals.{HasNoScenario, HasNoneIf, IfDiffers, IsKnown, IsMisread, IsTroubleIn, IsTroubleOf, IsUnmoved, IsUntold, MeansNothing, unread}
 use Rattle.hsr_plan_hops.specs.Refusing.{IsImmovable}
 use Rattle.hsr_plan_scenario.specs.Says.{IsTitled, Tells, names_meant_by, scenario_meant}
-use Rattle.hsr_plan_scenario.specs.Spelled.{front_text, links_text, nodes_text, order_lines, scenario_text, summary_text, title_text}
+use Rattle.hsr_plan_scenario.specs.Spelled.{front_text, links_text, nodes_text, order_lines, room_text, scenario_text, summary_text, title_text}
 use Rattle.hsr_plan_scenario.specs.declared.checking.Trouble.{Trouble}
 use Rattle.hsr_plan_scenario.specs.declared.checking.Trouble.TheVariants.{Plan as Faulty, TooLong, Endless, Differs}
 use Rattle.hsr_plan_scenario.proofs.Whole.{no_scenario}
@@ -80,9 +80,9 @@ unfolding scenario_text front_text
 titled_by None outline m is = tt
 titled_by (Some title) outline m is = (
   _,
-  ap (λ t. ((((((((title_text t ++ summary_text outline.moves m) ++ codes "unit = \"us\"\ncapacity = ") ++ decimal m.capacity) ++ codes "\n") ++ nodes_text m.nodes)
+  ap (λ t. ((((((((title_text t ++ summary_text outline.moves m) ++ codes "unit = \"us\"\ncapacity = ") ++ decimal m.capacity) ++ room_text outline.capacity m.at_once) ++ nodes_text m.nodes)
       ++ links_text m.nodes m.topology.links) ++ codes "step = [\n") ++ order_lines m.nodes m.streams m.sends m.orders) ++ codes "]\n") is
-      ∙ joined (codes "# " ++ title ++ codes "\n") (summary_text outline.moves m) (codes "unit = \"us\"\ncapacity = ") (decimal m.capacity) (codes "\n") (nodes_text m.nodes)
+      ∙ joined (codes "# " ++ title ++ codes "\n") (summary_text outline.moves m) (codes "unit = \"us\"\ncapacity = ") (decimal m.capacity) (room_text outline.capacity m.at_once) (nodes_text m.nodes)
       (links_text m.nodes m.topology.links) (codes "step = [\n") (order_lines m.nodes m.streams m.sends m.orders) (codes "]\n"),
 )
 

@@ -224,11 +224,20 @@ nodes_text nodes = codes "node = [\n" ++ flat_map node_line nodes ++ codes "]\n"
 unfoldable pub links_text : List Node → List (List End) → List ℕ
 links_text nodes links = codes "link = [\n" ++ link_lines nodes links ++ codes "]\n"
 
+-- where no capacity is said, and more sends may be under way at once than the largest holds, their number
+abbrev pub crowd_text : Option ℕ → ℕ → List ℕ
+crowd_text (Some said) sends = []
+crowd_text None sends = if nat_lt 4096 sends then codes "  # the most that there is: up to " ++ decimal sends ++ codes " sends may be under way at once" else []
+
+-- what ends the line of the capacity
+unfoldable pub room_text : Option ℕ → ℕ → List ℕ
+room_text said sends = crowd_text said sends ++ codes "\n"
+
 -- what stands before the orders
 unfoldable pub front_text : Outline → Meaning → List ℕ
 front_text outline m =
-    title_text outline.title ++ summary_text outline.moves m ++ codes "unit = \"us\"\ncapacity = " ++ decimal m.capacity ++ codes "\n" ++ nodes_text m.nodes ++ links_text m.nodes m.topology.links
-    ++ codes "step = [\n"
+    title_text outline.title ++ summary_text outline.moves m ++ codes "unit = \"us\"\ncapacity = " ++ decimal m.capacity ++ room_text outline.capacity m.at_once ++ nodes_text m.nodes
+    ++ links_text m.nodes m.topology.links ++ codes "step = [\n"
 
 -- the scenario that is meant, with what the plan says besides
 unfoldable pub scenario_text : Outline → Meaning → List ℕ

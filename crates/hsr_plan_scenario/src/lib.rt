@@ -22,3 +22,4 @@ pub use checking::{Trouble, moved, scenario_of_meaning, scenario_of_plan};
 pub use hsr_text::{InputFault, read_text};
 pub use judging::check_run;
 pub use planning::{Ending, Line, complain, deliver, fail, line_of, plan_run, words};
+pub use same::streams_meant;

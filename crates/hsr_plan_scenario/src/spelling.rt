@@ -8,7 +8,7 @@ ghost use Rattle.std.specs.Fmt.{decimal};
 ghost use Rattle.std.specs.List.{flat_map};
 ghost use Rattle.hex.specs.Hex.{encode_upper};
 ghost use Rattle.hsr_frame.specs.Grammar.{pair};
-ghost use Rattle.hsr_plan_scenario.specs.Spelled.{about_text, at_link, at_node, at_port, clock_text, comma, counts_text, digits_text, dir_text, does_text, frame_text, from_text, front_text, letter_or, link_line, link_lines, links_text, listed, mac_text, mode_text, moves_text, name_of, name_text, node_line, nodes_text, octets_text, order_line, order_lines, order_text, place_text, port_text, ring_place_text, role_text, scenario_text, sends_text, sizes_text, station_text, stations_text, step_text, stream_text, summary_text, title_text, vlan_text};
+ghost use Rattle.hsr_plan_scenario.specs.Spelled.{about_text, at_link, at_node, at_port, clock_text, comma, counts_text, crowd_text, digits_text, dir_text, does_text, frame_text, from_text, front_text, letter_or, link_line, link_lines, links_text, listed, mac_text, mode_text, moves_text, name_of, name_text, node_line, nodes_text, octets_text, order_line, order_lines, order_text, place_text, port_text, ring_place_text, role_text, room_text, scenario_text, sends_text, sizes_text, station_text, stations_text, step_text, stream_text, summary_text, title_text, vlan_text};
 
 use crate::sends::{next_stream, send_moments, sends_behind};
 use hsr_frame::{About, Mac, Mode, NoMemory};
@@ -684,6 +684,54 @@ fn put_summary(
     put_counts(text, nodes, links, sends.as_slice(), moves)
 }
 
+/// How many copies may wait in each direction of a link.
+const CAPACITY_LIMIT: usize = 4096;
+
+/// Puts a number between words last.
+fn put_between(
+    text: &mut Vec<u8>,
+    before: &str,
+    number: usize,
+    behind: &str,
+) -> Result<(), NoMemory>
+    ensures { OnOk result (text.new.items ≡ text.old.items
+        ++ (before.now ++ decimal number ++ behind.now)) }
+{
+    put(text, before)?;
+    put_number(text, number as u64)?;
+    put(text, behind)
+}
+
+/// Puts last how many sends may be under way at once, where no capacity is said, and they are more than the largest holds.
+fn put_crowd(text: &mut Vec<u8>, said: Option<usize>, sends: usize) -> Result<(), NoMemory>
+    ensures { OnOk result (text.new.items ≡ text.old.items ++ crowd_text said sends) }
+{
+    match said {
+        Some(_) => Ok(()),
+        None => {
+            if sends > CAPACITY_LIMIT {
+                put_between(
+                    text,
+                    "  # the most that there is: up to ",
+                    sends,
+                    " sends may be under way at once",
+                )
+            } else {
+                Ok(())
+            }
+        }
+    }
+}
+
+/// Puts what ends the line of the capacity last.
+#[tactic(auto, unfolding(crate::specs::Spelled::room_text))]
+fn put_room(text: &mut Vec<u8>, said: Option<usize>, sends: usize) -> Result<(), NoMemory>
+    ensures { OnOk result (text.new.items ≡ text.old.items ++ room_text said sends) }
+{
+    put_crowd(text, said, sends)?;
+    put(text, "\n")
+}
+
 /// What ends the list of steps.
 const END: &str = "]\n";
 
@@ -699,7 +747,7 @@ fn begun(alloc: Global, outline: &Outline, meaning: &Meaning) -> Result<Vec<u8>,
     // Plans tell microseconds, and a scenario without a unit would mean milliseconds.
     put(&mut text, "unit = \"us\"\ncapacity = ")?;
     put_number(&mut text, meaning.capacity as u64)?;
-    put(&mut text, "\n")?;
+    put_room(&mut text, outline.capacity, meaning.at_once)?;
     put_nodes(&mut text, nodes)?;
     put_links(&mut text, nodes, meaning.topology.links())?;
     put(&mut text, "step = [\n")?;

@@ -1,6 +1,8 @@
 pub mod Counting
+pub mod Growing
 pub mod Lists
 pub mod Moments
 pub mod Running
 pub mod Telling
 pub mod Names
+pub mod Young

@@ -32,7 +32,7 @@ abbrev pub milliseconds : Key → Data → Result ℕ What
 milliseconds key d = between faults 0 (2 ^ 30) key d >>= λ n. Ok (n * 1000)
 
 abbrev pub top_keys : List Key
-top_keys = key.Title ∷ key.Ring ∷ key.Rings ∷ key.RedBox ∷ key.Address ∷ key.Mode ∷ key.Capacity ∷ key.Life ∷ key.Until ∷ key.Moves ∷ key.Hop ∷ key.Stream ∷ key.Event ∷ []
+top_keys = key.Title ∷ key.Ring ∷ key.Rings ∷ key.RedBox ∷ key.Address ∷ key.Mode ∷ key.Capacity ∷ key.Life ∷ key.Until ∷ key.Epoch ∷ key.Moves ∷ key.Hop ∷ key.Stream ∷ key.Event ∷ []
 
 -- ---- how copies move
 
@@ -68,12 +68,13 @@ unfoldable pub outline : Members → Result Outline What
 outline ms = do
   _ ← only top_keys ms
   title ← optional faults key.Title None (perhaps (word faults title_of)) ms
-  capacity ← optional faults key.Capacity 64 (between faults 1 4096) ms
+  capacity ← optional faults key.Capacity None (perhaps (between faults 1 4096)) ms
   life ← optional faults key.Life 2000000 milliseconds ms
   until ← optional faults key.Until None (perhaps moment) ms
+  epoch ← optional faults key.Epoch 0 (between faults 0 4294967295) ms
   moves ← moves_in ms
   network ← network_in ms
-  Ok (record { title = title; capacity = capacity; life = life; until = until; moves = moves; network = network })
+  Ok (record { title = title; capacity = capacity; life = life; until = until; epoch = epoch; moves = moves; network = network })
 
 abbrev pub streams_in : Members → Result (List Stream) PlanFault
 streams_in ms = at_spot spot.Top (optional faults key.Stream [] (tables faults) ms) >>= each spot.Stream stream_in []

@@ -21,18 +21,18 @@ use crate::streams::{stream, until};
 use crate::table::only;
 use crate::words::{HOP_LIMIT, is_title, moves_of};
 use hsr_tables::LIFE_CHECK;
-use hsr_toml::{NoDocument, between, document_of, needed, number_or, tables_at, text, value};
+use hsr_toml::{NoDocument, between, document_of, needed, tables_at, text, value};
 use std::alloc::Global;
 use toml::{Table, Value};
-
-/// How many copies wait in each direction of a link, where a text doesn't say.
-const CAPACITY: u64 = 64;
 
 /// How many copies may wait in each direction of a link.
 const CAPACITY_LIMIT: u64 = 4096;
 
 /// The longest period of supervision, in milliseconds.
 const LIFE_LIMIT: u64 = 1 << 30;
+
+/// The last second since 1970 that four octets tell.
+const EPOCH_LIMIT: u64 = (1 << 32) - 1;
 
 /// A fault with its place.
 fn at_spot<T>(spot: Spot, told: Result<T, What>) -> Result<T, PlanFault>
@@ -141,13 +141,18 @@ fn title(alloc: Global, table: &Table) -> Result<Option<String>, What>
     }
 }
 
-/// The capacity of a document.
-fn capacity(table: &Table) -> Result<usize, What>
-    ensures { Gives (λ n. n) result (optional faults key.Capacity 64 (between faults 1 4096)
-        (table_view table.now)) }
+/// The capacity of a document, where it says one.
+fn capacity(table: &Table) -> Result<Option<usize>, What>
+    ensures { Gives (λ n. n) result (optional faults key.Capacity None
+        (perhaps (between faults 1 4096)) (table_view table.now)) }
 {
-    let capacity = number_or(CAPACITY, 1, CAPACITY_LIMIT, table, Key::Capacity)?;
-    Ok(capacity as usize)
+    match value(table, Key::Capacity) {
+        None => Ok(None),
+        Some(value) => {
+            let capacity = between(1, CAPACITY_LIMIT, Key::Capacity, value)?;
+            Ok(Some(capacity as usize))
+        }
+    }
 }
 
 /// The period of supervision of a document, in microseconds: that of the standard, where it doesn't say.
@@ -163,6 +168,15 @@ fn life(table: &Table) -> Result<u64, What>
             Ok(life * 1000)
         }
     }
+}
+
+/// The moment 0 of a document, in seconds since 1970.
+fn epoch(table: &Table) -> Result<u64, What>
+    ensures { Gives (λ n. n) result (optional faults key.Epoch 0 (between faults 0 4294967295)
+        (table_view table.now)) }
+{
+    // A time of IEC 61850-8-1 tells seconds in four octets.
+    number_or(0, 0, EPOCH_LIMIT, table, Key::Epoch)
 }
 
 // ---- how copies move
@@ -231,7 +245,7 @@ fn moves(table: &Table) -> Result<Moves, What>
 // ---- the document
 
 /// The keys of a document.
-const TOP_KEYS: [Key; 13] = [
+const TOP_KEYS: [Key; 14] = [
     Key::Title,
     Key::Ring,
     Key::Rings,
@@ -241,6 +255,7 @@ const TOP_KEYS: [Key; 13] = [
     Key::Capacity,
     Key::Life,
     Key::Until,
+    Key::Epoch,
     Key::Moves,
     Key::Hop,
     Key::Stream,
@@ -258,6 +273,7 @@ fn outline(alloc: Global, table: &Table) -> Result<Outline, What>
     let capacity = capacity(table)?;
     let life = life(table)?;
     let until = until(table)?;
+    let epoch = epoch(table)?;
     let moves = moves(table)?;
     let network = network(alloc, table)?;
     Ok(Outline {
@@ -265,6 +281,7 @@ fn outline(alloc: Global, table: &Table) -> Result<Outline, What>
         capacity,
         life,
         until,
+        epoch,
         moves,
         network,
     })
@@ -318,7 +335,7 @@ fn text_fault(fault: NoDocument) -> PlanFault
 }
 
 /// The plan that a text is: a document of TOML, of at most 16 MiB, with the keys `title`, `ring` or `rings` (by their keys),
-/// `redbox`, `address`, `mode`, `capacity` (1 to 4096, 64 where it is missing), `life_ms` (2000), `until_us`, `moves`, `hop_us`, and `stream`
+/// `redbox`, `address`, `mode`, `capacity` (1 to 4096), `life_ms` (2000), `until_us`, `epoch` (0), `moves`, `hop_us`, and `stream`
 /// and `event`, arrays of tables. A fault is the first in this order: the text itself; a key that the document doesn't have; its own
 /// values; streams, then events, by number. Within a table comes a key that it doesn't have, and then key by key what is missing, of
 /// another type or out of its values. `NoMemory` comes where a growth was refused, in place of any other answer. Whether names are

@@ -1,7 +1,7 @@
 use Rattle.std.proofs.Common.{◌≡◌, ◌∙◌, IfOk, ap, codes, subst}
 use Rattle.clap.specs.Words.{App, app_of, with_rule}
-use Rattle.hsr_cli.specs.Options.{flag_rule}
-use Rattle.hsr_cli.proofs.bench_words.asking.Goals as goal
+use Rattle.hsr_cli.specs.Flags.{flag_rule}
+use Rattle.hsr_cli.proofs.playing.asking.Goals as goal
 
 pub returns-clause-app : goal.returns-clause-app
 returns-clause-app c =

@@ -1,0 +1,37 @@
+-- What is shown of the finished run of what is meant is what is shown of its scenario; and why a plan has no run.
+use Rattle.std.proofs.Common.{◌≡◌, ℕ, List, Option, Result, Ok, Err, IfErr, IsOk, inl, inr, ⊎_elim, refl, subst}
+use Rattle.hsr_options.specs.declared.chosen.Showing.{Showing}
+use Rattle.hsr_finished_run.specs.Finished.{Finished}
+use Rattle.hsr_ring.specs.Finishing.{IsFinishedBy}
+use Rattle.hsr_commands.specs.ScenarioRun.{IsReported}
+use Rattle.hsr_commands.specs.Shown.{IsShownOf}
+use Rattle.hsr_commands.specs.declared.shown.ShownRun.{ShownRun}
+use Rattle.hsr_plan_schedule.specs.Meaning.{Meaning}
+use Rattle.hsr_plan_text.specs.Plan.{Plan}
+use Rattle.hsr_plan_hops.specs.Moving.{MeansMoved}
+use Rattle.hsr_plan_scenario.specs.Refusals.{IsKnown, IsUnmoved}
+use Rattle.hsr_plan_scenario.specs.Says.{names_meant_by, scenario_meant}
+use Rattle.hsr_plan_scenario.specs.declared.checking.Trouble.{Trouble}
+use Rattle.hsr_plan_scenario.proofs.Troubles.{unmoved_why}
+use Rattle.hsr_plan_run.specs.Runs.{HasNoRun, IsUnrunOf}
+
+pub reported_so : (capacity : ℕ) (showing : Showing) (folder : Option (List ℕ)) (m : Meaning) (f : Finished) (shown : ShownRun) → IsFinishedBy capacity m.topology m.capacity m.orders f
+    → IsShownOf showing (Ok (names_meant_by m)) folder f shown → IsReported capacity showing folder (Ok (scenario_meant m)) (Ok (names_meant_by m)) shown
+reported_so capacity showing folder m f shown finished is =
+    let P : Finished → Type 0 = λ run. IsShownOf showing (Ok (names_meant_by m)) folder run shown in
+    record {
+      world = finished.world;
+      played = record { meant = scenario_meant m; means = refl; plays = finished.plays };
+      ended = finished.ended;
+      is_shown = subst P finished.is is;
+    }
+
+-- one that isn't moved has no run
+pub unmoved_so : (capacity : ℕ) (plan : Plan) (trouble : Trouble) → IsKnown trouble → IsUnmoved capacity plan trouble → IsUnrunOf capacity plan
+unmoved_so capacity plan trouble known is = ⊎_elim (λ nothing. inl nothing) (λ immovable. inr (inl immovable)) (unmoved_why capacity plan trouble known is)
+
+-- so has one of which what it means has none
+pub unplayed_so : {X Y Z : Type 0} (r : Result X (Result Y Z)) (capacity : ℕ) (plan : Plan) (m : Meaning) → MeansMoved capacity plan m → IfErr r (λ line. IsOk line → HasNoRun capacity m)
+    → IfErr r (λ line. IsOk line → IsUnrunOf capacity plan)
+unplayed_so (Ok x) capacity plan m means none = tt
+unplayed_so (Err line) capacity plan m means none = λ told. inr (inr (m, means, none told))
