@@ -74,12 +74,11 @@ module _ (said : Result Plan PlanFault) (g : Ground) where
 
   pub more_so_far : (cases rest some others : List Case) (plays after : List Played) → IsSoFar cases rest plays → some ++ others ≡ rest → AddsPlays said g some plays after
       → IsSoFar cases others after
-  more_so_far cases rest some others plays after (seen, are, played) next (more, same, now) =
-      (
-        seen ++ some,
-        append_assoc seen some others ∙ ap (λ cs. seen ++ cs) next ∙ are,
-        subst (ArePlayed said g (seen ++ some)) (sym same) (AllZip-append (IsPlayed said g) seen some plays more played now),
-      )
+  more_so_far cases rest some others plays after (seen, are, played) next (more, same, now) = (
+    seen ++ some,
+    append_assoc seen some others ∙ ap (λ cs. seen ++ cs) next ∙ are,
+    subst (ArePlayed said g (seen ++ some)) (sym same) (AllZip-append (IsPlayed said g) seen some plays more played now),
+  )
 
   pub all_so_far : (cases rest : List Case) (plays : List Played) → IsSoFar cases rest plays → rest ≡ [] → ArePlayed said g cases plays
   all_so_far cases rest plays (seen, are, played) none =
