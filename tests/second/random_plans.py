@@ -547,7 +547,7 @@ def outcomes(plan, scenario, world, names):
     """Each send, and of those that need it who missed it, had it twice, or had it where it wasn't due. It is needed by those whom its stream
     is for, as far as they are on then; by all, where its stream names none."""
     meaning, told = Meaning(plan), [iter(titles) for titles in model.streams(scenario)]
-    whom = {title: {meaning.node(name) for name in meaning.receivers(stream)} for title, stream in meaning.streams()}
+    whom = {title: {meaning.node(name) for name in meaning.receivers(stream)} for title, stream, *_ in meaning.streams()}
     for (number, place), _, (_, *got, _) in world.all_deliveries():
         at, receivers = world.nodes[number].record[place][1], whom.get(next(told[number]))
         needs = [not (receivers and name not in receivers or meaning.is_off(name, at)) for name in names]

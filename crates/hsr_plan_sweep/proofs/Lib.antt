@@ -1,4 +1,4 @@
 mod Listing
-mod Playing
+mod Plays
 mod Uncounted
 mod Whole

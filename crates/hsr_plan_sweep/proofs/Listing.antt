@@ -1,6 +1,6 @@
 -- Lists, one after another.
-use Rattle.std.proofs.Common.{◌≡◌, ℕ, ◌+◌, ◌<◌, ◌∙◌, ◌++◌, ◌∷◌, [], length, get_or, drop, slice_get, map, List, Option, Some, None, ap, sym, append_assoc}
-use Rattle.std.specs.Prelude.{fold}
+use Rattle.std.proofs.Common.{◌≡◌, ℕ, ◌+◌, ◌<◌, ◌∙◌, ◌++◌, ◌∷◌, [], length, get_or, drop, slice_get, map, Bool, true, false, refl, List, Option, Some, None, ap, sym, append_assoc}
+use Rattle.std.specs.Prelude.{find, fold}
 use Rattle.std.specs.List.{cons_option}
 use Rattle.std.specs.Option.{option_or}
 use Rattle.std.proofs.lemmas.List.{drop_more}
@@ -9,7 +9,7 @@ use Rattle.hsr_scenario.specs.declared.steps.Order.{Order}
 use Rattle.hsr_report.specs.declared.spending.Spending.{Spending}
 use Rattle.hsr_plan_text.specs.declared.plan.Event.{Event}
 use Rattle.hsr_plan_network.specs.Nodes.{Node}
-use Rattle.hsr_plan_sweep.specs.Audience.{Audience, last_turn, next_turn}
+use Rattle.hsr_plan_sweep.specs.Audience.{Audience, first_in_need, last_turn, needs, next_turn}
 use Rattle.hsr_plan_sweep.specs.Cases.{in_part, is_in_part, one_if}
 use Rattle.hsr_plan_sweep.specs.Counting.{first_missed, miss_at, outcome_of, outcomes, stream_if}
 use Rattle.hsr_plan_sweep.specs.Sendings.{behind, sending_by, sendings}
@@ -23,6 +23,12 @@ use Rattle.hsr_plan_sweep.specs.declared.counting.Outcome.{Outcome}
 use Rattle.hsr_plan_sweep.specs.declared.playing.Played.{Played}
 use Rattle.hsr_plan_sweep.specs.declared.sendings.Sending.{Sending}
 
+skip : {X : Type 0} (p : X → Bool) (x : X) (xs : List X) → p x ≡ false → find p (x ∷ xs) ≡ find p xs
+skip p x xs no = rw no refl
+
+hit : {X : Type 0} (p : X → Bool) (x : X) (xs : List X) → p x ≡ true → find p (x ∷ xs) ≡ Some x
+hit p x xs yes = rw yes refl
+
 pub part_step : (seen : List Case) (part : Part) (cases : List Case) (i : ℕ) (d : Case) → i < length cases
     → seen ++ in_part part i (drop i cases) ≡ (seen ++ one_if (is_in_part part i) (get_or cases i d)) ++ in_part part (i + 1) (drop (i + 1) cases)
 part_step seen part cases i d h =
@@ -32,6 +38,13 @@ part_step seen part cases i d h =
 pub turn_step : (now : ℕ) (name : List ℕ) (last : Option Turn) (es : List Event) (i : ℕ) (d : Event) → i < length es
     → last_turn now name last (drop i es) ≡ last_turn now name (next_turn now name last (get_or es i d)) (drop (i + 1) es)
 turn_step now name last es i d h = ap (last_turn now name last) (drop_more es i d h)
+
+module _ (a : Audience) (stream : Option ℕ) (at : ℕ) (ks : List ℕ) (i d : ℕ) where
+  pub need_skip : i < length ks → needs a stream at (get_or ks i d) ≡ false → first_in_need a stream at (drop i ks) ≡ first_in_need a stream at (drop (i + 1) ks)
+  need_skip h no = ap (first_in_need a stream at) (drop_more ks i d h) ∙ skip (needs a stream at) (get_or ks i d) (drop (i + 1) ks) no
+
+  pub need_hit : i < length ks → needs a stream at (get_or ks i d) ≡ true → first_in_need a stream at (drop i ks) ≡ Some (get_or ks i d)
+  need_hit h yes = ap (first_in_need a stream at) (drop_more ks i d h) ∙ hit (needs a stream at) (get_or ks i d) (drop (i + 1) ks) yes
 
 pub sendings_step : (seen : List Sending) (streams : List ℕ) (os : List Order) (i : ℕ) (d : Order) → i < length os
     → seen ++ sendings streams (drop i os)

@@ -1,16 +1,20 @@
 -- A plan that is read whole, or up to a front that is too long, and what is told where nothing shows how far it is.
-use Rattle.std.proofs.Common.{◌≡◌, ◌⊎◌, ℕ, Bool, ◌^◌, true, false, ◌∙◌, List, Option, Some, None, Result, Ok, Err, IfErr, IfOk, IfSome, IsOk, inl, inr, refl, sym, subst}
+use Rattle.std.proofs.Common.{◌≡◌, ◌≢◌, ◌⊎◌, ℕ, Bool, ◌^◌, true, false, ◌∙◌, List, Option, Some, None, Result, Ok, Err, IfErr, IfOk, IfSome, IsOk, inl, inr, refl, sym, subst}
 use Rattle.std.specs.Io.KnownBytes.{Appends, Keeps}
+use Rattle.hsr_plan_text.specs.Fallible.{FailsAt}
 use Rattle.hsr_plan_text.specs.Meaning.{plan_of}
 use Rattle.hsr_plan_text.specs.Plan.{Plan}
 use Rattle.hsr_plan_text.specs.declared.fault.PlanFault.{PlanFault}
+use Rattle.hsr_plan_text.specs.declared.fault.What.TheVariants.{NoMemory}
+use Rattle.hsr_plan_schedule.specs.Meaning.{Meaning, Means, listed}
+use Rattle.hsr_plan_scenario.proofs.Troubles.{plan_fault}
 use Rattle.hsr_plan_scenario.specs.Ends.{TellsFault, TellsInput, TellsWhy}
 use Rattle.hsr_text.specs.Whole.{IsWhole}
 use Rattle.hsr_plan_scenario.specs.declared.planning.Ending.{Ending}
 use Rattle.hsr_plan_scenario.specs.declared.planning.Ending.TheVariants.{Planned, Doubted, Refused, Failed, Unwritten}
 use Rattle.hsr_plan_scenario.proofs.Whole.{longer, no_plan}
-use Rattle.hsr_plan_sweep.specs.Refusals.{IsUnsweepable, IsUnswept, IsUnsweptIf}
-use Rattle.hsr_plan_sweep.specs.Swept.{IfHidden, IsSwept, IsSweptPlan, SweepEnds, WritesSweep, ending_of}
+use Rattle.hsr_plan_sweep.specs.Refusals.{IsUnplayedAmong, IsUnsweepable, IsUnswept, IsUnsweptIf, cases_in, ground}
+use Rattle.hsr_plan_sweep.specs.Swept.{IfHidden, IsSwept, IsSweptPlan, SweepEnds, TellsSweep, WritesSweep, ending_of}
 use Rattle.hsr_plan_sweep.specs.declared.asked.Asked.{Asked}
 
 -- a text over 16 MiB is no plan
@@ -66,6 +70,22 @@ module _ (octets : List ℕ) (asked : Asked) (shown : Bool) (held holds : Option
       let S : Ending → Type 0 = λ e. IsSwept octets asked text e in
       let E : Ending → Type 0 = λ e. SweepEnds octets asked shown held holds told tells e in
       subst E (sym (is ∙ ends)) (written_so told tells text _ (subst S ends swept) same written)
+
+-- a sweep of what a plan means is one of the plan
+pub swept_so : {T X : Type 0} (text : T → List ℕ) (end : T → Ending) (r : Result T X) (said : Result Plan PlanFault) (plan : Plan) (asked : Asked) (m : Meaning) → said ≡ Ok plan → Means plan m
+    → IfOk r (λ t. TellsSweep said asked m (text t) (end t)) → IfOk r (λ t. IsSweptPlan plan asked (text t) (end t))
+swept_so text end (Ok t) said plan asked m is means tells = (m, means, subst (λ s. TellsSweep s asked m (text t) (end t)) is tells)
+swept_so text end (Err e) said plan asked m is means tells = tt
+
+-- what is meant isn't swept, and so the plan isn't
+pub unswept_meaning : {T Y Z : Type 0} (r : Result T (Result Y Z)) (said : Result Plan PlanFault) (plan : Plan) (asked : Asked) (m : Meaning) → said ≡ Ok plan → Means plan m
+    → IfErr r (λ line. IsOk line → IsUnplayedAmong said (ground asked.at m) (cases_in asked m)) → IfErr r (λ line. IsOk line → IsUnswept plan asked)
+unswept_meaning (Ok t) said plan asked m is means none = tt
+unswept_meaning (Err line) said plan asked m is means none = λ told. inr (inr (m, means, subst (λ s. IsUnplayedAmong s (ground asked.at m) (cases_in asked m)) is (none told)))
+
+-- the plan means nothing
+pub unswept_fault : (fault : PlanFault) (plan : Plan) (asked : Asked) → fault.what ≢ NoMemory → FailsAt fault fault.what (listed plan) → IsUnswept plan asked
+unswept_fault fault plan asked known fails = inr (inl (fault, plan_fault fault fault.what (listed plan) known fails))
 
 -- octets whose plan isn't swept aren't
 pub unswept_so : {X Y Z : Type 0} (r : Result X (Result Y Z)) (octets text : List ℕ) (plan : Plan) (asked : Asked) → plan_of text ≡ Ok plan → text ≡ octets

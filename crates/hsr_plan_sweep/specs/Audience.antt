@@ -55,9 +55,12 @@ is_off now name events = is_off_by (last_turn now name None events)
 abbrev pub is_named : Node → List ℕ → Bool
 is_named node n = bytes_eq node.name n || is_in n node.stations
 
+abbrev pub is_one_of : List (List ℕ) → Node → Bool
+is_one_of names node = list_any (λ n. is_named node n) names
+
 -- nobody is named, or the node is
 abbrev pub is_for : Stream → Node → Bool
-is_for stream node = (length stream.receivers == 0) || list_any (is_named node) stream.receivers
+is_for stream node = (length stream.receivers == 0) || is_one_of stream.receivers node
 
 abbrev pub is_for_if : Option Stream → Node → Bool
 is_for_if None node = true

@@ -1,5 +1,5 @@
 -- The count of a plan's run, and those of all cases.
-use Rattle.std.specs.Prelude.{ℕ, ◌≡◌, List, length, Result, Ok, Err}
+use Rattle.std.specs.Prelude.{ℕ, ◌≡◌, ◌++◌, List, length, Result, Ok, Err}
 use Rattle.std.specs.List.{AllZip}
 use Rattle.hsr_finished_run.specs.Finished.{Finished}
 use Rattle.hsr_run_laws.specs.Run.{Run}
@@ -47,3 +47,7 @@ IsPlayed said g case played = (played.case ≡ case) × IfSays said (λ plan. Is
 -- each case is counted
 abbrev pub ArePlayed : Result Plan PlanFault → Ground → List Case → List Played → Type 0
 ArePlayed said g cases plays = AllZip (IsPlayed said g) cases plays
+
+-- and put behind others
+abbrev pub AddsPlays : Result Plan PlanFault → Ground → List Case → List Played → List Played → Type 0
+AddsPlays said g cases before after = (more : List Played) × (after ≡ before ++ more) × ArePlayed said g cases more

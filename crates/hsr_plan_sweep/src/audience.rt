@@ -1,7 +1,6 @@
 //! At whom a send is due: those whom its stream is for, as far as they are on when it is sent.
-ghost use Rattle.std.specs.Prelude.{◌≡◌, slice_get};
-ghost use Rattle.std.specs.List.{list_any};
-ghost use Rattle.hsr_plan_sweep.specs.Audience.{comes_next, first_in_need, is_for, is_for_stream, is_named, is_off, is_off_by, last_turn, needs, needs_if, next_turn, one_needs, turn_by};
+ghost use Rattle.std.specs.Prelude.{◌≡◌, None, slice_get};
+ghost use Rattle.hsr_plan_sweep.specs.Audience.{comes_next, first_in_need, is_for, is_for_stream, is_named, is_off, is_one_of, is_off_by, last_turn, needs, needs_if, next_turn, one_needs, turn_by};
 
 use hsr_plan_network::{Node, is_in};
 use hsr_plan_text::{Deed, Event, Stream, Word};
@@ -99,11 +98,18 @@ fn is_named(node: &Node, name: &Word) -> bool
     node.name.as_bytes() == name.as_bytes() || is_in(name.as_bytes(), node.stations.as_slice())
 }
 
+/// Whether one of these names is that of a node, or of a station that it is.
+fn is_one_of(names: &[Word], node: &Node) -> bool
+    ensures { result ≡ is_one_of names.now node.now }
+{
+    names.iter().any(|name| is_named(node, name))
+}
+
 /// Whether a stream is for a node: nobody is named, or the node is.
 fn is_for(stream: &Stream, node: &Node) -> bool
     ensures { result ≡ is_for stream.now node.now }
 {
-    stream.receivers.is_empty() || stream.receivers.iter().any(|name| is_named(node, name))
+    stream.receivers.is_empty() || is_one_of(stream.receivers.as_slice(), node)
 }
 
 impl<'a> Audience<'a> {
@@ -133,13 +139,21 @@ impl<'a> Audience<'a> {
     }
 
     /// The first of these nodes that needs it.
-    pub(crate) fn first_in_need(&self, stream: Option<usize>, at: u64, nodes: &[usize]) -> Option<usize>
+    #[tactic(auto, using(crate::proofs::Listing::need_skip, crate::proofs::Listing::need_hit))]
+    pub(crate) fn first_in_need(
+        &self,
+        stream: Option<usize>,
+        at: u64,
+        nodes: &[usize],
+    ) -> Option<usize>
         ensures { result ≡ first_in_need self.now stream at nodes.now }
     {
-        nodes
-            .iter()
-            .find(|node| self.needs(stream, at, **node))
-            .copied()
+        for node in nodes.iter() {
+            if self.needs(stream, at, *node) {
+                return Some(*node);
+            }
+        }
+        None
     }
 
     /// Whether one of these nodes needs it.

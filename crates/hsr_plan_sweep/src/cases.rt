@@ -1,5 +1,5 @@
 //! What is off in turn: each link and each node, each two of them where that is asked for, and at last nothing.
-ghost use Rattle.std.specs.Prelude.{◌≡◌, ◌++◌, ◌∷◌, [], length, map, IfOk, OnOk};
+ghost use Rattle.std.specs.Prelude.{◌≡◌, ◌++◌, ◌∷◌, [], false, length, map, IfOk, OnOk};
 ghost use Rattle.hsr_plan_sweep.specs.Cases.{cases_of, faults_asked, in_part, is_in_part, one_if, parted, whole};
 ghost use Rattle.hsr_plan_sweep.specs.declared.cases.Case.TheVariants.{Off as IsOff};
 

@@ -279,11 +279,7 @@ fn put_last(
 }
 
 /// The lines of a sweep: of each run, then the single points of failure, and what is enough for all.
-pub(crate) fn lines(
-    alloc: Global,
-    words: &Words<'_>,
-    plays: &[Played],
-) -> Result<Vec<u8>, NoMemory>
+pub(crate) fn lines(alloc: Global, words: &Words<'_>, plays: &[Played]) -> Result<Vec<u8>, NoMemory>
     ensures { IfOk result (λ text. text.items ≡ sweep_text words.now plays.now) }
 {
     let mut text = Vec::new(alloc);

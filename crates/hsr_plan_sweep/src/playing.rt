@@ -2,7 +2,7 @@
 ghost use Rattle.std.specs.Prelude.{◌≡◌, ◌++◌, ◌<◌, [], false, length, IfErr, IfOk, IfSome, MatchResult, None, Ok, OnOk};
 ghost use Rattle.hsr_plan_text.specs.Meaning.{plan_of};
 ghost use Rattle.hsr_plan_sweep.specs.Refusals.{IsKnown, IsUncounted, IsUnplayedAmong, TellsCase};
-ghost use Rattle.hsr_plan_sweep.specs.Runs.{ArePlayed, IfSays, IsCountOf};
+ghost use Rattle.hsr_plan_sweep.specs.Runs.{AddsPlays, ArePlayed, IfSays, IsCountOf};
 ghost use Rattle.hsr_plan_sweep.specs.Variants.{varied};
 ghost use Rattle.hsr_plan_sweep.specs.declared.running.Trouble.TheVariants.{Memory as NoRoom};
 
@@ -84,7 +84,7 @@ fn counted(alloc: Global, plan: &Plan, case: Case) -> Result<Played, Trouble>
 }
 
 /// The count of a case.
-#[tactic(auto, using(crate::proofs::Playing::told_by_count, crate::proofs::Playing::told_no_memory))]
+#[tactic(auto, using(crate::proofs::Plays::told_by_count, crate::proofs::Plays::told_no_memory))]
 fn play(alloc: Global, swept: &Swept<'_>, case: Case) -> Result<Played, Trouble>
     ensures { TellsCase (plan_of swept.now.text) swept.now.ground case result }
 {
@@ -143,6 +143,25 @@ fn append(plays: &mut Vec<Played>, more: &[Played]) -> Result<(), Trouble>
     }
 }
 
+/// Puts the counts of some cases behind others.
+#[tactic(auto, using(crate::proofs::Plays::appended))]
+fn play_next<T: Threads + Sync>(
+    rt: &T,
+    alloc: Global,
+    swept: &Swept<'_>,
+    cases: &[Case],
+    plays: &mut Vec<Played>,
+) -> Result<(), Trouble>
+    ensures { MatchResult result
+        (λ _. AddsPlays (plan_of swept.now.text) swept.now.ground cases.now plays.old.items plays.new.items)
+        (λ trouble. IsKnown trouble → IsUnplayedAmong (plan_of swept.now.text) swept.now.ground cases.now) }
+{
+    match play_some(rt, alloc, swept, cases) {
+        Ok(more) => append(plays, more.as_slice()),
+        Err(trouble) => Err(trouble),
+    }
+}
+
 /// The first cases, so many of them at most that are played at once, and the others; none where none is left.
 fn next_some(cases: &[Case]) -> Option<(&[Case], &[Case])>
     ensures all { IfSome result (λ p. p.0.now ++ p.1.now ≡ cases.now) }
@@ -156,6 +175,7 @@ fn next_some(cases: &[Case]) -> Option<(&[Case], &[Case])>
 }
 
 /// The counts of all cases, in their order. Where that is asked for, `errors` is told how far it is.
+#[tactic(auto, using(crate::proofs::Plays::none_so_far, crate::proofs::Plays::more_so_far, crate::proofs::Plays::all_so_far, crate::proofs::Plays::unplayed_so_far))]
 pub(crate) fn play_all<T: Threads + Sync, E: Write>(
     rt: &T,
     alloc: Global,
@@ -179,8 +199,8 @@ pub(crate) fn play_all<T: Threads + Sync, E: Write>(
     // What is left is a variable, since the loop's invariant speaks of it.
     while let Some((some, others)) = next_some(rest) {
         progress.show(alloc, errors, plays.len());
-        match play_some(rt, alloc, swept, some) {
-            Ok(more) => append(&mut plays, more.as_slice())?,
+        match play_next(rt, alloc, swept, some, &mut plays) {
+            Ok(()) => {}
             Err(trouble) => return Err(trouble),
         }
         rest = others;

@@ -330,7 +330,15 @@ pub fn sweep_run<T: Threads + Sync, R: Read, W: Write, E: Write>(
         (E.contents errors.old) (E.contents errors.new) ending)) }
 {
     match read_text(alloc, reader, TEXT_LIMIT) {
-        Ok(octets) => answer(rt, alloc, octets.as_slice(), asked, is_shown, writer, errors),
+        Ok(octets) => answer(
+            rt,
+            alloc,
+            octets.as_slice(),
+            asked,
+            is_shown,
+            writer,
+            errors,
+        ),
         Err(fault) => fail(errors, fault),
     }
 }

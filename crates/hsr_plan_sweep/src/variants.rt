@@ -102,12 +102,7 @@ fn deed_of(alloc: Global, ground: &Ground<'_>, off: Off) -> Result<Deed, NoMemor
 }
 
 /// Puts what happens where a link or a node is off behind the events of a plan.
-fn turn_off(
-    alloc: Global,
-    plan: &mut Plan,
-    ground: &Ground<'_>,
-    off: Off,
-) -> Result<(), NoMemory>
+fn turn_off(alloc: Global, plan: &mut Plan, ground: &Ground<'_>, off: Off) -> Result<(), NoMemory>
     ensures { OnOk result (plan.new ≡ with_off ground.now off plan.old) }
 {
     let deed = deed_of(alloc, ground, off)?;

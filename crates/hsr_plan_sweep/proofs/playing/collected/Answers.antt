@@ -3,7 +3,7 @@ use Rattle.rayon.proofs.ListFacts.{IfOk-then}
 use Rattle.rayon.proofs.ToStd.{slice-AllZip}
 use Rattle.hsr_plan_text.specs.Meaning.{plan_of}
 use Rattle.hsr_plan_sweep.specs.Refusals.{TellsCase}
-use Rattle.hsr_plan_sweep.proofs.Playing.{all_told}
+use Rattle.hsr_plan_sweep.proofs.Plays.{all_told}
 use Rattle.hsr_plan_sweep.proofs.playing.collected.Goals as goal
 
 pub returns : goal.returns

@@ -1,6 +1,6 @@
 use Rattle.std.proofs.Common.{◌≡◌, false, length}
 use Rattle.hsr_plan_text.specs.Meaning.{plan_of}
-use Rattle.hsr_plan_sweep.proofs.Playing.{IsSoFar}
+use Rattle.hsr_plan_sweep.proofs.Plays.{IsSoFar}
 use Rattle.hsr_plan_sweep.proofs.playing.play_all.Given as goal
 
 abbrev pub invariant-loop-some : goal.invariant-loop-some

@@ -1,5 +1,5 @@
 -- The counts of cases, one after another, or why there are none.
-use Rattle.std.proofs.Common.{◌≡◌, ◌<◌, ℕ, zero, suc, arith, slice_index_or, ◌++◌, ◌∷◌, [], List, length, map, Result, Ok, Err, IfErr, IfOk, subst, sym, ap, ◌∙◌, append-nil, append_assoc, refl}
+use Rattle.std.proofs.Common.{◌≡◌, ◌<◌, ℕ, zero, suc, arith, slice_index_or, ◌++◌, ◌∷◌, [], List, length, map, Result, Ok, Err, IfErr, IfOk, OnOk, subst, sym, ap, ◌∙◌, append-nil, append_assoc, refl}
 use Rattle.std.specs.Prelude.{MatchResult, Vec}
 use Rattle.std.specs.Global.{Global}
 use Rattle.std.specs.List.{AllZip, Contains}
@@ -8,7 +8,7 @@ use Rattle.rayon.proofs.ListFacts.{AllZip-append}
 use Rattle.hsr_plan_text.specs.Plan.{Plan}
 use Rattle.hsr_plan_text.specs.declared.fault.PlanFault.{PlanFault}
 use Rattle.hsr_plan_sweep.specs.Refusals.{IsKnown, IsUncounted, IsUnplayed, IsUnplayedAmong, TellsCase}
-use Rattle.hsr_plan_sweep.specs.Runs.{ArePlayed, IfSays, IsCountOf, IsPlayed}
+use Rattle.hsr_plan_sweep.specs.Runs.{AddsPlays, ArePlayed, IfSays, IsCountOf, IsPlayed}
 use Rattle.hsr_plan_sweep.specs.Variants.{Ground, varied}
 use Rattle.hsr_plan_sweep.specs.declared.cases.Case.{Case}
 use Rattle.hsr_plan_sweep.specs.declared.playing.Played.{Played}
@@ -58,14 +58,27 @@ module _ (said : Result Plan PlanFault) (g : Ground) where
       subst (ArePlayed said g cases) (sym items) (all_played cases ys (subst P are told))
   all_told cases all (Err trouble) told there = unplayed_at cases all trouble there.0 told there.1 there.2
 
+  -- counts are put behind others, or memory ran out
+  pub appended : (cases : List Case) (before after more : List Played) (r : Result (Unit {0}) Trouble) → ArePlayed said g cases more → OnOk r (after ≡ before ++ more)
+      → IfErr r (λ trouble. trouble ≡ Memory)
+      → MatchResult r (λ _. AddsPlays said g cases before after) (λ trouble. IsKnown trouble → IsUnplayedAmong said g cases)
+  appended cases before after more (Ok u) played same none = (more, same, played)
+  appended cases before after more (Err trouble) played same none = λ known. absurd (subst IsKnown none known)
+
   -- what was counted before, and what comes next
   abbrev pub IsSoFar : List Case → List Case → List Played → Type 0
   IsSoFar cases rest plays = (seen : List Case) × (seen ++ rest ≡ cases) × ArePlayed said g seen plays
 
-  pub more_so_far : (cases rest some others : List Case) (plays more : List Played) → IsSoFar cases rest plays → some ++ others ≡ rest → ArePlayed said g some more
-      → IsSoFar cases others (plays ++ more)
-  more_so_far cases rest some others plays more (seen, are, played) next now =
-      (seen ++ some, append_assoc seen some others ∙ ap (λ cs. seen ++ cs) next ∙ are, AllZip-append (IsPlayed said g) seen some plays more played now)
+  pub none_so_far : (cases : List Case) → IsSoFar cases cases []
+  none_so_far cases = ([], refl, tt)
+
+  pub more_so_far : (cases rest some others : List Case) (plays after : List Played) → IsSoFar cases rest plays → some ++ others ≡ rest → AddsPlays said g some plays after
+      → IsSoFar cases others after
+  more_so_far cases rest some others plays after (seen, are, played) next (more, same, now) = (
+    seen ++ some,
+    append_assoc seen some others ∙ ap (λ cs. seen ++ cs) next ∙ are,
+    subst (ArePlayed said g (seen ++ some)) (sym same) (AllZip-append (IsPlayed said g) seen some plays more played now),
+  )
 
   pub all_so_far : (cases rest : List Case) (plays : List Played) → IsSoFar cases rest plays → rest ≡ [] → ArePlayed said g cases plays
   all_so_far cases rest plays (seen, are, played) none =
