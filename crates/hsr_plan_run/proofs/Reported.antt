@@ -1,8 +1,13 @@
 -- What is shown of the finished run of what is meant is what is shown of its scenario; and why a plan has no run.
-use Rattle.std.proofs.Common.{◌≡◌, ℕ, List, Option, Result, Ok, Err, IfErr, IsOk, inl, inr, ⊎_elim, refl, subst}
+use Rattle.std.proofs.Common.{◌≡◌, ℕ, List, map, true, Option, Result, Ok, Err, IfErr, IsOk, inl, inr, ⊎_elim, refl, subst}
 use Rattle.hsr_options.specs.declared.chosen.Showing.{Showing}
 use Rattle.hsr_finished_run.specs.Finished.{Finished}
+use Rattle.hsr_run_laws.specs.Run.{Run}
+use Rattle.hsr_naming.specs.declared.names.Names.{Names}
+use Rattle.hsr_naming.specs.declared.naming.Naming.TheVariants as naming
+use Rattle.hsr_run_names.specs.Naming.{AreNamesOf}
 use Rattle.hsr_ring.specs.Finishing.{IsFinishedBy}
+use Rattle.hsr_commands.specs.Naming.{IsNaming}
 use Rattle.hsr_commands.specs.ScenarioRun.{IsReported}
 use Rattle.hsr_commands.specs.Shown.{IsShownOf}
 use Rattle.hsr_commands.specs.declared.shown.ShownRun.{ShownRun}
@@ -10,10 +15,18 @@ use Rattle.hsr_plan_schedule.specs.Meaning.{Meaning}
 use Rattle.hsr_plan_text.specs.Plan.{Plan}
 use Rattle.hsr_plan_hops.specs.Moving.{MeansMoved}
 use Rattle.hsr_plan_scenario.specs.Refusals.{IsKnown, IsUnmoved}
-use Rattle.hsr_plan_scenario.specs.Says.{names_meant_by, scenario_meant}
+use Rattle.hsr_plan_scenario.specs.Says.{names_meant_by, scenario_meant, streams_meant}
 use Rattle.hsr_plan_scenario.specs.declared.checking.Trouble.{Trouble}
 use Rattle.hsr_plan_scenario.proofs.Troubles.{unmoved_why}
 use Rattle.hsr_plan_run.specs.Runs.{HasNoRun, IsUnrunOf}
+
+-- by the names and the streams that are meant, a run is called as is meant
+pub called_so : (run : Run) (m : Meaning) (nodes : List (List ℕ)) (streams : List (List (List ℕ))) (names : Names) → AreNamesOf run nodes streams names
+    → nodes ≡ map (λ node. node.name) m.nodes → streams ≡ streams_meant m → IsNaming true (Ok (names_meant_by m)) run (naming.Names names)
+called_so run m nodes streams names are is_nodes is_streams =
+    let P : List (List ℕ) → Type 0 = λ ns. AreNamesOf run ns streams names in
+    let Q : List (List (List ℕ)) → Type 0 = λ ss. AreNamesOf run (map (λ node. node.name) m.nodes) ss names in
+    (names, subst Q is_streams (subst P is_nodes are), refl)
 
 pub reported_so : (capacity : ℕ) (showing : Showing) (folder : Option (List ℕ)) (m : Meaning) (f : Finished) (shown : ShownRun) → IsFinishedBy capacity m.topology m.capacity m.orders f
     → IsShownOf showing (Ok (names_meant_by m)) folder f shown → IsReported capacity showing folder (Ok (scenario_meant m)) (Ok (names_meant_by m)) shown

@@ -25,6 +25,7 @@ pub(crate) fn node_names(alloc: Global, nodes: &[Node]) -> Result<Vec<Vec<u8>>, 
 }
 
 /// The naming of a finished run by the names that a plan means.
+#[tactic(auto, using(crate::proofs::Reported::called_so))]
 fn called<const C: usize>(
     alloc: Global,
     meaning: &Meaning,
