@@ -212,7 +212,7 @@ fn is_at(copies: &[Caught<'_>], point: usize, seen: &Sighting) -> bool
 {
     match copies.get(seen.first as usize) {
         None => false,
-        Some(caught) => caught.copy.is_to_group() && seen.point == point,
+        Some(caught) => caught.copy().is_to_group() && seen.point == point,
     }
 }
 
@@ -368,7 +368,7 @@ fn put_runs_if(
 fn is_seen(ring: &Ring<'_>, caught: &Caught<'_>, point: usize, way: u8) -> bool
     ensures { result ≡ is_seen ring.now point way caught.now }
 {
-    ring.point_of(caught) == point && ring.way_of(caught) == way && caught.copy.is_to_group()
+    ring.point_of(caught) == point && ring.way_of(caught) == way && caught.copy().is_to_group()
 }
 
 /// Whether the directions of a point carried group frames one way.

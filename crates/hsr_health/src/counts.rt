@@ -119,13 +119,13 @@ fn mark_by(
 ) -> Marks
     ensures { result ≡ mark_by (is_at is_by_lane.now) ring.now begins is_clash is_late caught.now }
 {
-    let by_lane = is_by_lane.get(caught.direction).copied().unwrap_or(false);
+    let by_lane = is_by_lane.get(caught.direction()).copied().unwrap_or(false);
     Marks {
         begins,
         is_clash,
         is_late,
-        is_wrong_size: !has_right_size(&caught.copy),
-        is_wrong_lane: !by_lane && caught.copy.path % 2 != ring.way_of(caught),
+        is_wrong_size: !has_right_size(&caught.copy()),
+        is_wrong_lane: !by_lane && caught.copy().path % 2 != ring.way_of(caught),
     }
 }
 
@@ -162,7 +162,7 @@ pub(crate) fn source_of(of_copy: &[u32], copy: u32) -> usize
 fn with_copy(counts: Counts, marks: Marks, caught: &Caught<'_>) -> Counts
     ensures { result ≡ counts_with counts marks caught.now.copy.seq }
 {
-    with(counts, marks, caught.copy.seq)
+    with(counts, marks, caught.copy().seq)
 }
 
 /// Counts a copy of a source, if that is among them.
@@ -233,7 +233,7 @@ fn count_sighting(
         count_fate(
             counts,
             source,
-            caught.copy.is_to_group(),
+            caught.copy().is_to_group(),
             fate_of(ring, seen),
         );
     }

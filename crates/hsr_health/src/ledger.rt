@@ -119,8 +119,8 @@ fn number_if(
         Some(Numbered {
             group,
             sender,
-            number: caught.copy.seq,
-            at: caught.at,
+            number: caught.copy().seq,
+            at: caught.at(),
             copy: i,
         })
     } else {

@@ -23,7 +23,7 @@ use std::alloc::Global;
 fn is_group_at(ring: &Ring<'_>, caught: &Caught<'_>, point: usize) -> bool
     ensures { result ≡ (is_at ring.now point caught.now && is_group caught.now.copy.dst) }
 {
-    ring.point_of(caught) == point && caught.copy.is_to_group()
+    ring.point_of(caught) == point && caught.copy().is_to_group()
 }
 
 /// Whether a point saw a group frame.
@@ -66,7 +66,7 @@ fn one_sided_of(
 fn is_at_one_sided(ring: &Ring<'_>, caught: &Caught<'_>, flags: &[bool]) -> bool
     ensures { result ≡ (is_in flags.now (point_of ring.now caught.now) && is_group caught.now.copy.dst) }
 {
-    flags.get(ring.point_of(caught)).copied().unwrap_or(false) && caught.copy.is_to_group()
+    flags.get(ring.point_of(caught)).copied().unwrap_or(false) && caught.copy().is_to_group()
 }
 
 /// The first copy of a group frame at one of the points that are set, by its index.
@@ -121,7 +121,7 @@ fn is_one_way(ring: &Ring<'_>, copies: &[Caught<'_>], both: &[bool], seen: &Sigh
     match copies.get(seen.first as usize) {
         None => false,
         Some(caught) => {
-            caught.copy.is_to_group()
+            caught.copy().is_to_group()
                 && fate_of(ring, seen) == Fate::Once
                 && both.get(seen.point).copied().unwrap_or(false)
         }
@@ -158,8 +158,8 @@ fn one_way_at(copies: &[Caught<'_>], all: &[Sighting], first: usize, count: u64)
         spot: Some(spot_of(caught)),
         what: What::Alone {
             point: seen.point,
-            source: caught.copy.src,
-            number: caught.copy.seq,
+            source: caught.copy().src,
+            number: caught.copy().seq,
             way: seen.way(),
         },
     })

@@ -19,7 +19,7 @@ use std::alloc::Global;
 pub fn is_late(seen: &Sighting, caught: &Caught<'_>) -> bool
     ensures { result ≡ nat_le forget_time (caught.now.at - seen.now.at) }
 {
-    caught.at.saturating_sub(seen.at) >= FORGET_TIME
+    caught.at().saturating_sub(seen.at) >= FORGET_TIME
 }
 
 /// Whether a copy comes so long after the first copy of its sighting, which is told by its number.
@@ -197,7 +197,7 @@ fn put_begun(
         return Ok(());
     }
     let caught = &copies[i as usize];
-    let at = caught.at;
+    let at = caught.at();
     crowding.things.push(Begun { at, copy: i })?;
     crowding.from = recent_from(crowding.things.as_slice(), crowding.from, at);
     crowding.most = greater(crowding.most, crowding.things.as_slice(), crowding.from);

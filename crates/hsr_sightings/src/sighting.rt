@@ -159,7 +159,7 @@ fn keys_of(
     for i in 0..copies.len() {
         let caught = &copies[i];
         keys.push(Keyed {
-            at: caught.at,
+            at: caught.at(),
             key: key_of(firsts[i], ring.point_of(caught)),
         })?;
     }
@@ -172,7 +172,7 @@ fn begun(caught: &Caught<'_>, i: u32, frame: u32, point: usize, order: u64) -> S
 {
     Sighting {
         first: i,
-        at: caught.at,
+        at: caught.at(),
         frame,
         point,
         order,
@@ -186,7 +186,7 @@ fn begun(caught: &Caught<'_>, i: u32, frame: u32, point: usize, order: u64) -> S
 fn joined(ring: &Ring<'_>, caught: &Caught<'_>, carried: u32, seen: Sighting) -> Sighting
     ensures { result ≡ joined ring.now caught.now carried seen }
 {
-    seen.with(ring.way_of(caught), caught.at, carried > 0)
+    seen.with(ring.way_of(caught), caught.at(), carried > 0)
 }
 
 /// The sightings of the copies so far.
