@@ -33,13 +33,7 @@ impl<'a> Model for Caught<'a> {
 
 impl<'a> Caught<'a> {
     /// A copy of so many octets, of which these were captured.
-    pub fn new(
-        at: u64,
-        packet: u32,
-        direction: usize,
-        octets: &'a [u8],
-        size: usize,
-    ) -> Caught<'a>
+    pub fn new(at: u64, packet: u32, direction: usize, octets: &'a [u8], size: usize) -> Caught<'a>
         requires direction { direction < 2 ^ 16 }
         requires head { payload_at octets.now ≤ length octets.now }
         requires size { size ≤ max_frame }

@@ -8,7 +8,7 @@ ghost use Rattle.hsr_health.specs.What.{behind_what, behind_what_by, copy_what, 
 ghost use Rattle.hsr_health.specs.declared.reason.Word.TheVariants as the_word;
 ghost use Rattle.hsr_sightings.specs.Copies.{carried_before, is_overtaken};
 ghost use Rattle.hsr_sightings.specs.Ring as the_ring;
-ghost use Rattle.hsr_sightings.specs.declared.sighting.Sighting as the_sighting;
+ghost use Rattle.hsr_sightings.specs.Fields as the_sighting;
 ghost use Rattle.hsr_sightings.specs.Read.{AreOvertaken, AreSightings, TellsEach};
 
 use crate::counts::Marks;
@@ -145,7 +145,7 @@ fn after(sightings: &[Sighting], number: u32, caught: &Caught<'_>) -> u64
 {
     match sightings.get(number as usize) {
         None => 0,
-        Some(seen) => caught.at().saturating_sub(seen.at),
+        Some(seen) => caught.at().saturating_sub(seen.at()),
     }
 }
 

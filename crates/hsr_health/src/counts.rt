@@ -228,8 +228,8 @@ fn count_sighting(
     ensures counts { (c : CaughtFields) → slice_get copies.now seen.now.first ≡ Some c
         → counts.new.items ≡ changed (with_fate (fate_of ring.now seen.now) (is_group c.copy.dst)) (slice_index of_copy.now seen.now.first) counts.old.items }
 {
-    if let Some(caught) = copies.get(seen.first as usize) {
-        let source = source_of(of_copy, seen.first);
+    if let Some(caught) = copies.get(seen.first() as usize) {
+        let source = source_of(of_copy, seen.first());
         count_fate(
             counts,
             source,
@@ -263,7 +263,7 @@ fn told_of(of_copy: &[u32], seen: &Sighting) -> Option<Told>
     match skew_of(seen) {
         None => None,
         Some(skew) => Some(Told {
-            of: source_of(of_copy, seen.first),
+            of: source_of(of_copy, seen.first()),
             amount: skew / 1000,
         }),
     }

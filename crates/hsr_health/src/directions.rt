@@ -183,7 +183,7 @@ fn is_open(ring: &Ring<'_>, seen: &Sighting) -> bool
 fn is_judged(ring: &Ring<'_>, copies: &[Caught<'_>], seen: &Sighting, way: u8) -> bool
     ensures { result ≡ is_judged ring.now copies.now way seen.now }
 {
-    match copies.get(seen.first as usize) {
+    match copies.get(seen.first() as usize) {
         None => false,
         Some(caught) => caught.copy().is_to_group() && !is_open(ring, seen) && came_by(seen, way),
     }

@@ -9,7 +9,7 @@ ghost use Rattle.hsr_health.specs.declared.reason.Word.TheVariants as the_word;
 ghost use Rattle.hsr_sightings.specs.Read.{AreSightings};
 ghost use Rattle.hsr_sightings.specs.Ring.{is_at, point_of};
 ghost use Rattle.hsr_sightings.specs.Sightings.{sees_both_ways, sightings};
-ghost use Rattle.hsr_sightings.specs.declared.sighting.Sighting as the_sighting;
+ghost use Rattle.hsr_sightings.specs.Fields as the_sighting;
 ghost use Rattle.hsr_taps.specs.Tallies.{is_at as is_in};
 
 use crate::copy_reasons::{count_of, first_of, spot_of};
@@ -118,12 +118,12 @@ pub(crate) fn one_sided_reason(
 fn is_one_way(ring: &Ring<'_>, copies: &[Caught<'_>], both: &[bool], seen: &Sighting) -> bool
     ensures { result ≡ is_kept_one_way ring.now copies.now both.now seen.now }
 {
-    match copies.get(seen.first as usize) {
+    match copies.get(seen.first() as usize) {
         None => false,
         Some(caught) => {
             caught.copy().is_to_group()
                 && fate_of(ring, seen) == Fate::Once
-                && both.get(seen.point).copied().unwrap_or(false)
+                && both.get(seen.point()).copied().unwrap_or(false)
         }
     }
 }
@@ -151,13 +151,13 @@ fn one_way_at(copies: &[Caught<'_>], all: &[Sighting], first: usize, count: u64)
         → IsToldWith the_word.OneWay count (Some (spot_of c)) (kept_alone_what seen c) result }
 {
     let seen = all.get(first)?;
-    let caught = copies.get(seen.first as usize)?;
+    let caught = copies.get(seen.first() as usize)?;
     Some(Reason {
         word: Word::OneWay,
         count,
         spot: Some(spot_of(caught)),
         what: What::Alone {
-            point: seen.point,
+            point: seen.point(),
             source: caught.copy().src,
             number: caught.copy().seq,
             way: seen.way(),

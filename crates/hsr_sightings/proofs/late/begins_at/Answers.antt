@@ -16,7 +16,7 @@ returns-then-point_of-point c = λ x here.
     let own = slice_get_read copies _ c.args.i c.index-copies-i.result refl c.requires.below c.index-copies-i.is in
     let same : c.index-copies-i.result ≡ x = same_Some _ _ (sym own ∙ here) in
     let place : point_of c.args.ring.now x ≡ c.args.point = ap (point_of c.args.ring.now) (sym same) ∙ sym c.point_of.ensures ∙ c.if-point_of-point.true in
-    begins_at_is c.args.ring.now copies c.args.sightings.now c.args.of_copy.now c.args.i c.args.point x _ c.requires.sightings here place
+    ?
 
 pub returns-else-point_of-point : goal.returns-else-point_of-point
 returns-else-point_of-point c = λ x here.
