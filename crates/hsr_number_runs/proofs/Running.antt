@@ -2,7 +2,7 @@
 use Rattle.std.proofs.Common.{◌≡◌, ℕ, ◌+◌, ◌*◌, ◌-◌, ◌<◌, ◌≤◌, ◌^◌, Bool, true, false, cond, max, true≢false, List, [], ◌∷◌, ◌++◌, length, reverse, take, get_or, set, refl, sym, ap, subst, ◌∙◌, arith, Option, Some, None}
 use Rattle.std.specs.Prelude.{◌/◌, ◌==◌, ◌&&◌, ◌||◌, ◌%◌, nat_eq, nat_lt, nat_le, IfSome, unwrap_or, option_to_list}
 use Rattle.std.specs.HashMap.{get}
-use Rattle.std.proofs.lemmas.Bool.{and_left, and_right, eq-eqb, eqb-true, ltb-true}
+use Rattle.std.proofs.lemmas.Bool.{eq-eqb, eqb-true, ltb-true}
 use Rattle.std.proofs.lemmas.Bool.Decides.{nat_tests}
 use Rattle.std.proofs.lemmas.Grind.{get_or-set_at}
 use Rattle.std.proofs.lemmas.List.{get_or-set_other, take_more, reverse-append}
@@ -10,7 +10,7 @@ use Rattle.hsr_number_runs.specs.declared.run.Counting.{Counting}
 use Rattle.hsr_number_runs.specs.declared.run.InRun.{InRun}
 use Rattle.hsr_number_runs.specs.declared.run.Numbered.{Numbered}
 use Rattle.hsr_number_runs.specs.declared.run.Restart.{Restart}
-use Rattle.hsr_number_runs.specs.Counting.{AreMarked, IsPlaced, Knows, is_marked, same_block}
+use Rattle.hsr_number_runs.specs.Counting.{AreMarked, AreMarkedBy, IsPlaced, Knows, is_marked, same_block}
 use Rattle.hsr_number_runs.specs.Runs.{begun, extended_by, gone_on, greater, in_run, in_runs, is_there, put_in, restart_by, restart_of, restarts, restarts_by, restarts_in, run_count, top_of}
 
 -- ---- lists
@@ -43,23 +43,28 @@ same_mark run r put extended e run_is put_is block = grind (arith, nat_tests)
 other_mark : (own run r put extended e : ℕ) → own ≡ run → put ≡ extended → (nat_eq run r && nat_eq (extended / 8) (e / 8)) ≡ false → ((own == r) && (put == e)) ≡ false
 other_mark own run r put extended e own_is put_is other = grind (arith, nat_tests)
 
-pub put_marked : (old new : Counting) (p : InRun) (run extended : ℕ) (marks : List Bool) (before : List InRun) → extended % 8 < length marks
-    → ((k : ℕ) → get_or marks k false ≡ is_marked (get same_block old.there (run, extended / 8)) k)
-    → ((key : ℕ × ℕ) → get same_block new.there key ≡ cond (same_block (run, extended / 8) key) (Some (set marks (extended % 8) true)) (get same_block old.there key))
-    → AreMarked old before → p.run ≡ run → p.extended ≡ extended → AreMarked new (p ∷ before)
+both_true : (a b : Bool) → (a && b) ≡ true → (a ≡ true) × (b ≡ true)
+both_true true b is = (refl, is)
+both_true false b is = absurd cc
+
+pub put_marked : (old new : ℕ × ℕ → Option (List Bool)) (p : InRun) (run extended : ℕ) (marks : List Bool) (before : List InRun) → extended % 8 < length marks
+    → ((k : ℕ) → get_or marks k false ≡ is_marked (old (run, extended / 8)) k)
+    → ((key : ℕ × ℕ) → new key ≡ cond (same_block (run, extended / 8) key) (Some (set marks (extended % 8) true)) (old key))
+    → AreMarkedBy old before → p.run ≡ run → p.extended ≡ extended → AreMarkedBy new (p ∷ before)
 put_marked old new p run extended marks before below are update known run_is extended_is r e = by_block (same_block (run, extended / 8) (r, e / 8)) refl
   where
     by_block : (b : Bool) → same_block (run, extended / 8) (r, e / 8) ≡ b
-        → is_marked (get same_block new.there (r, e / 8)) (e % 8) ≡ (((p.run == r) && (p.extended == e)) || is_there r e before)
+        → is_marked (new (r, e / 8)) (e % 8) ≡ (((p.run == r) && (p.extended == e)) || is_there r e before)
     by_block true same =
-        let runs : run ≡ r = eqb-true run r (and_left (nat_eq run r) (nat_eq (extended / 8) (e / 8)) same) in
-        let blocks : extended / 8 ≡ e / 8 = eqb-true (extended / 8) (e / 8) (and_right (nat_eq run r) (nat_eq (extended / 8) (e / 8)) same) in
-        let here = update (r, e / 8) ∙ ap (λ x. cond x (Some (set marks (extended % 8) true)) (get same_block old.there (r, e / 8))) same in
-        let others = are (e % 8) ∙ ap (λ x. is_marked (get same_block old.there (x, extended / 8)) (e % 8)) runs ∙ ap (λ x. is_marked (get same_block old.there (r, x)) (e % 8)) blocks ∙ known r e in
+        let both = both_true (nat_eq run r) (nat_eq (extended / 8) (e / 8)) same in
+        let runs : run ≡ r = eqb-true run r both.0 in
+        let blocks : extended / 8 ≡ e / 8 = eqb-true (extended / 8) (e / 8) both.1 in
+        let here = update (r, e / 8) ∙ ap (λ x. cond x (Some (set marks (extended % 8) true)) (old (r, e / 8))) same in
+        let others = are (e % 8) ∙ ap (λ x. is_marked (old (x, extended / 8)) (e % 8)) runs ∙ ap (λ x. is_marked (old (r, x)) (e % 8)) blocks ∙ known r e in
         ap (λ o. is_marked o (e % 8)) here ∙ one_more_mark marks (extended % 8) (e % 8) below ∙ ap (λ x. nat_eq (extended % 8) (e % 8) || x) others
         ∙ ap (λ x. x || is_there r e before) (same_mark p.run r p.extended extended e (run_is ∙ runs) extended_is blocks)
     by_block false other =
-        let here = update (r, e / 8) ∙ ap (λ x. cond x (Some (set marks (extended % 8) true)) (get same_block old.there (r, e / 8))) other in
+        let here = update (r, e / 8) ∙ ap (λ x. cond x (Some (set marks (extended % 8) true)) (old (r, e / 8))) other in
         ap (λ o. is_marked o (e % 8)) here ∙ known r e ∙ ap (λ x. x || is_there r e before) (sym (other_mark p.run run r p.extended extended e run_is extended_is other))
 
 pub put_knows : (old new : Counting) (p top : InRun) (own : Option InRun) (before : List InRun) → top ≡ greater p own → own ≡ get nat_eq old.tops p.group

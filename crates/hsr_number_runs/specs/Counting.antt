@@ -18,9 +18,12 @@ abbrev pub is_marked : Option (List Bool) → ℕ → Bool
 is_marked None k = false
 is_marked (Some marks) k = slice_index_or marks k false
 
--- the extended numbers of each run are marked, eight by eight
+-- the extended numbers of each run are marked, eight by eight, where a block has these marks
+abbrev pub AreMarkedBy : (ℕ × ℕ → Option (List Bool)) → List InRun → Type 0
+AreMarkedBy marks before = (run extended : ℕ) → is_marked (marks (run, extended / 8)) (extended % 8) ≡ is_there run extended before
+
 abbrev pub AreMarked : Counting → List InRun → Type 0
-AreMarked counting before = (run extended : ℕ) → is_marked (get same_block counting.there (run, extended / 8)) (extended % 8) ≡ is_there run extended before
+AreMarked counting before = AreMarkedBy (get same_block counting.there) before
 
 -- the greatest of each group's latest run, what each run has, and how many there are
 pub record Knows (counting : Counting) (before : List InRun) : Type 0 where
