@@ -1,9 +1,9 @@
 //! What a packet is: a copy of a tagged frame, or none.
-ghost use Rattle.std.specs.Prelude.{◌≡◌, ◌-◌, ◌<◌, ◌≤◌, ◌++◌, drop, length, replicate};
+ghost use Rattle.std.specs.Prelude.{◌≡◌, ◌-◌, ◌<◌, ◌≤◌, ◌++◌, drop, length, replicate, IfOk};
 ghost use Rattle.hsr_frame.specs.Address.{is_group};
 ghost use Rattle.hsr_frame.specs.Egress.{is_supervision};
 ghost use Rattle.hsr_frame.specs.Layout.{max_frame};
-ghost use Rattle.hsr_frame_copies.specs.Contents.{copy_in, copy_of, filled, needed, tagged_head};
+ghost use Rattle.hsr_frame_copies.specs.Contents.{IsAtPlaces, copy_in, copy_of, filled, needed, tagged_head};
 
 use arrayvec::ArrayVec;
 use hsr_capture_reader::Packet;
@@ -58,13 +58,13 @@ pub enum NoCopy {
 }
 
 /// What stands up to the type of a frame, with it.
-const HEAD_LEN: usize = 14;
+pub(crate) const HEAD_LEN: usize = 14;
 
 /// The same of a frame with a VLAN tag.
-const VLAN_HEAD_LEN: usize = 18;
+pub(crate) const VLAN_HEAD_LEN: usize = 18;
 
 /// Where the first type stands.
-const TYPE_AT: usize = 12;
+pub(crate) const TYPE_AT: usize = 12;
 
 /// How many octets must have been captured so that a frame's type and its tag, if it has one, can be read.
 fn needed(octets: &[u8]) -> usize
@@ -159,8 +159,16 @@ fn copy_in<'a>(octets: &'a [u8], seen: Result<SeenView<'_>, FrameFault>) -> Resu
 
 /// What a packet is. Octets that weren't captured count as zeros where its size is looked at; where its type or its tag isn't whole,
 /// it is `Unread`.
-#[tactic(auto, using(crate::proofs::Zeros::too_long))]
 pub fn copy_of<'a>(packet: &Packet<'a>) -> Result<Copy<'a>, NoCopy>
+    ensures found { result ≡ copy_of packet.now }
+    ensures places { IfOk result (λ copy. IsAtPlaces packet.now copy) }
+{
+    copy_by(packet)
+}
+
+/// What a packet is.
+#[tactic(auto, using(crate::proofs::Zeros::too_long))]
+fn copy_by<'a>(packet: &Packet<'a>) -> Result<Copy<'a>, NoCopy>
     ensures { result ≡ copy_of packet.now }
 {
     if !packet.is_cut() {

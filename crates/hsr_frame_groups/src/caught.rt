@@ -1,27 +1,80 @@
 //! Copies as they were captured.
-ghost use Rattle.std.specs.Prelude.{◌≡◌};
+ghost use Rattle.std.specs.Prelude.{◌≡◌, ◌<◌, ◌≤◌, ◌^◌, length};
+ghost use Rattle.hsr_frame.specs.Layout.{max_frame};
+ghost use Rattle.hsr_frame_copies.specs.Contents.{copy_at, payload_at};
 ghost use Rattle.hsr_frame_groups.specs.Frames.{key_by, key_of};
 
 use hsr_frame::Mac;
-use hsr_frame_copies::Copy;
+use hsr_frame_copies::{Copy, copy_at};
 use std::marker::Model;
 
-/// A copy that was captured: when, in nanoseconds since 1970; as which of the file's packets, from 1; and in which direction, by its
-/// number.
+/// A copy that was captured: when, in nanoseconds since 1970; as which of the file's packets, from 1; in which direction, by its
+/// number; and what it says. It is held as the packet's octets and read anew from them, so that a copy takes 32 octets of room.
 #[derive(Drop)]
 pub struct Caught<'a> {
-    pub at: u64,
-    pub packet: u32,
-    pub direction: usize,
-    pub copy: Copy<'a>,
+    at: u64,
+    octets: &'a [u8],
+    packet: u32,
+    size: u16,
+    direction: u16,
 }
 
 impl<'a> Model for Caught<'a> {
+    ghost use Rattle.std.specs.Prelude.{◌≤◌, length};
+    ghost use Rattle.hsr_frame_copies.specs.Contents.{copy_at, payload_at};
     ghost use Rattle.hsr_frame_groups.specs.Frames.{CaughtFields};
 
     ghost Value = { CaughtFields };
 
-    ghost view = { λ c. record { at = c.at; packet = c.packet; direction = c.direction; copy = c.copy } };
+    ghost view = { λ c. record { at = c.at; packet = c.packet; direction = c.direction; copy = copy_at c.octets.now c.size } };
+
+    ghost invariant = { λ c. payload_at c.octets.now ≤ length c.octets.now };
+}
+
+impl<'a> Caught<'a> {
+    /// A copy of so many octets, of which these were captured.
+    pub fn new(at: u64, packet: u32, direction: usize, octets: &'a [u8], size: usize) -> Caught<'a>
+        requires direction { direction < 2 ^ 16 }
+        requires head { payload_at octets.now ≤ length octets.now }
+        requires size { size ≤ max_frame }
+        ensures { result ≡ record { at = at; packet = packet; direction = direction; copy = copy_at octets.now size } }
+    {
+        Caught {
+            at,
+            octets,
+            packet,
+            size: size as u16,
+            direction: direction as u16,
+        }
+    }
+
+    /// When it was captured, in nanoseconds since 1970.
+    pub fn at(&self) -> u64
+        ensures { result ≡ self.now.at }
+    {
+        self.at
+    }
+
+    /// Which of the file's packets it is, from 1.
+    pub fn packet(&self) -> u32
+        ensures { result ≡ self.now.packet }
+    {
+        self.packet
+    }
+
+    /// Its direction, by its number.
+    pub fn direction(&self) -> usize
+        ensures { result ≡ self.now.direction }
+    {
+        usize::from(self.direction)
+    }
+
+    /// What it says.
+    pub fn copy(&self) -> Copy<'a>
+        ensures { result ≡ self.now.copy }
+    {
+        copy_at(self.octets, usize::from(self.size))
+    }
 }
 
 /// A source and a number, as one number.
@@ -33,8 +86,9 @@ fn key_by(source: Mac, number: u16) -> u64
 }
 
 /// The source and the number of a copy, as one number.
-pub(crate) fn key_of(caught: &Caught<'_>) -> u64
+pub fn key_of(caught: &Caught<'_>) -> u64
     ensures { result ≡ key_of caught.now }
 {
-    key_by(caught.copy.src, caught.copy.seq)
+    let copy = caught.copy();
+    key_by(copy.src, copy.seq)
 }

@@ -16,7 +16,7 @@ pub const FRAME_TIME: u64 = 2_000_000_000;
 fn joins(first: &Caught<'_>, caught: &Caught<'_>) -> bool
     ensures { result ≡ joins first.now caught.now }
 {
-    caught.at.saturating_sub(first.at) < FRAME_TIME && says_same(&first.copy, &caught.copy)
+    caught.at().saturating_sub(first.at()) < FRAME_TIME && says_same(&first.copy(), &caught.copy())
 }
 
 /// The place that a table tells of, if the copy there began the frame of the copy at a place; or else that place.
@@ -58,7 +58,7 @@ fn put_copy(
     ensures moment { moment_of table.new ≡ caught.now.at }
     ensures horizon { horizon_of table.new ≡ horizon_of table.old }
 {
-    table.put(alloc, caught.at, key_of(caught), first)?;
+    table.put(alloc, caught.at(), key_of(caught), first)?;
     Ok(())
 }
 

@@ -8,5 +8,5 @@
 mod caught;
 mod frames;
 
-pub use caught::Caught;
+pub use caught::{Caught, key_of};
 pub use frames::{FRAME_TIME, frames_of};

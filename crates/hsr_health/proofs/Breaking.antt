@@ -16,7 +16,7 @@ use Rattle.hsr_sightings.specs.Read.{AreSightings}
 use Rattle.hsr_sightings.specs.Ring.{Ring}
 use Rattle.hsr_sightings.specs.Seen.{came_both, fate_of}
 use Rattle.hsr_sightings.specs.Sightings.{Sighting as Seen, came_both_ways, came_by, is_once, sees_both_ways, sightings}
-use Rattle.hsr_sightings.specs.declared.sighting.Sighting.{Sighting}
+use Rattle.hsr_sightings.specs.Fields.{Sighting}
 use Rattle.hsr_health.specs.Broken.{AreMarked, AreRuns, AreTested, IsClosed, IsEnded, IsRun, IsStep, IsStepIf, IsTestOf, IsTold, Kept, Run, Span, Spans, all_spans, end_span, grown, is_group_at, is_marked, is_of_span, is_over, kept_at, none_going, put_sighting, run_at, runs_at, runs_if, runs_of, spans_in}
 use Rattle.hsr_health.specs.Counted.{AreSources, changed, goes_to_group, is_fate, is_of, kept_by}
 use Rattle.hsr_health.specs.declared.broken.Span as the_span

@@ -8,7 +8,7 @@ use Rattle.hsr_sightings.specs.Copies.{is_clash, is_late}
 use Rattle.hsr_sightings.specs.Frames.{begins}
 use Rattle.hsr_sightings.specs.Read.{AreSightings}
 use Rattle.hsr_sightings.specs.Ring.{Ring}
-use Rattle.hsr_sightings.specs.declared.sighting.Sighting.{Sighting}
+use Rattle.hsr_sightings.specs.Fields.{Sighting}
 use Rattle.hsr_health.specs.Counted.{AreCounted, AreFated, AreFates, AreOfSources, AreSkewed, AreSources, HaveNoFates, HaveNoLives, IsFated, IsSkewed, OfSource, counted, counts_with, has_wrong_lane, has_wrong_size, is_of, mark_of, no_counts, no_fates, skews_of, told_by, with_skew}
 use Rattle.hsr_spread.specs.Spreads.{AreSpreads, IsSpread}
 use Rattle.hsr_health.specs.declared.counts.Counts.{Counts}

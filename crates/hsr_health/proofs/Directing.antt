@@ -13,7 +13,7 @@ use Rattle.hsr_sightings.specs.Ring.{Ring, is_in}
 use Rattle.hsr_sightings.specs.Seen.{fate_of}
 use Rattle.hsr_sightings.specs.Sightings.{Sighting as Seen, came_by, is_open, is_to_group, sightings}
 use Rattle.hsr_sightings.specs.declared.overtaken.Overtaken.{Overtaken}
-use Rattle.hsr_sightings.specs.declared.sighting.Sighting.{Sighting}
+use Rattle.hsr_sightings.specs.Fields.{Sighting}
 use Rattle.hsr_health.specs.Counted.{AreBesides, AreDirected, AreDirections, AreJoined, ArePassed, HaveNoOvertaken, IsBeside, IsJoined, OfDirection, beside_at, beside_with, changed, directed, direction_with, goes_to_group, is_fate, is_judged, is_judged_at, is_kept_at, is_there_in, kept_by, mark_of, more_if, no_beside, no_direction, one_more, other_way, overtaken_in, overtaken_more, overtaken_put, with_beside}
 use Rattle.hsr_health.specs.declared.counts.Marks.{Marks}
 use Rattle.hsr_health.specs.declared.directions.Beside.{Beside}

@@ -12,7 +12,7 @@ use Rattle.hsr_sightings.specs.Seen.{came_both, fate_of, is_edge}
 use Rattle.hsr_sightings.specs.Sightings.{Sighting as Seen, came_both_ways, is_first_at_edge, is_more, is_once, is_open, is_to_group, is_twice, sightings}
 use Rattle.hsr_sightings.specs.declared.sighting.Fate.{Fate}
 use Rattle.hsr_sightings.specs.declared.sighting.Fate.TheVariants as the_fate
-use Rattle.hsr_sightings.specs.declared.sighting.Sighting.{Sighting}
+use Rattle.hsr_sightings.specs.Fields.{Sighting}
 use Rattle.hsr_health.specs.Counted.{AreFated, AreFates, AreKeptFates, AreSources, HaveNoFates, IsFated, changed, count_kept, count_of_source, fate_index, fates_with, is_fate, is_of, is_of_source, is_seen_of, no_fates, one_more, same_as, with_fate}
 use Rattle.hsr_health.specs.declared.counts.Counts.{Counts}
 use Rattle.hsr_health.specs.declared.counts.Fates.{Fates}

@@ -9,7 +9,7 @@ use Rattle.hsr_frame_groups.specs.Frames.{CaughtFields, past_of}
 use Rattle.hsr_sightings.specs.Copies.{carried_before, count_copies, first_such}
 use Rattle.hsr_sightings.specs.Read.{AreSightings, TellsEach}
 use Rattle.hsr_sightings.specs.Ring.{Ring}
-use Rattle.hsr_sightings.specs.declared.sighting.Sighting.{Sighting}
+use Rattle.hsr_sightings.specs.Fields.{Sighting}
 use Rattle.hsr_health.specs.Counted.{mark_of}
 use Rattle.hsr_health.specs.Told.{IsFirstFlag, IsOfCopies, IsToldWith, first_told, is_marked, spot_if, spot_of, such_of, word_of}
 use Rattle.hsr_health.specs.What.{copy_what, copy_what_by}

@@ -1,9 +1,9 @@
 -- Gaps, groups and numbers, one after the other.
-use Rattle.std.proofs.Common.{◌≡◌, ℕ, ◌+◌, ◌<◌, ◌≤◌, ◌&&◌, ◌||◌, not, Bool, true, false, List, [], ◌∷◌, ◌++◌, get_or, length, ◌⊎◌, inl, inr, refl, sym, ap, subst, ◌∙◌, arith, Option, Some, None}
+use Rattle.std.proofs.Common.{◌≡◌, ℕ, ◌+◌, ◌<◌, ◌≤◌, ◌&&◌, ◌||◌, not, Bool, true, false, List, [], ◌∷◌, ◌++◌, get_or, length, reverse, ◌⊎◌, inl, inr, refl, sym, ap, subst, ◌∙◌, arith, Option, Some, None}
 use Rattle.std.specs.Prelude.{nat_eq, nat_lt, option_to_list, slice_get, slice_index}
 use Rattle.std.proofs.lemmas.Bool.{cases_lt}
 use Rattle.std.proofs.lemmas.Bool.Decides.{nat_tests}
-use Rattle.std.proofs.lemmas.List.{append-nil, length_push}
+use Rattle.std.proofs.lemmas.List.{append-nil, length_push, reverse-append}
 use Rattle.std.proofs.lemmas.Option.{get_or_from_slice_get, same_Some, slice_get-get_or}
 use Rattle.hsr_frame_groups.specs.Frames.{CaughtFields}
 use Rattle.hsr_sightings.specs.Copies.{is_clash}
@@ -111,6 +111,11 @@ groups_more names groups new k own long is first are j group at_j = by_case (sli
 pub one_more_at_most : (old new : List Numbered) (own : Option Numbered) (i : ℕ) → new ≡ old ++ option_to_list own → length old ≤ i → length new ≤ i + 1
 one_more_at_most old new None i is le = let same = ap length (is ∙ append-nil old) in omega (arith, same, le)
 one_more_at_most old new (Some n) i is le = let more = ap length is ∙ length_push old n in omega (arith, more, le)
+
+-- numbers with one more, the latest first
+pub reverse_more : {X : Type 0} (xs : List X) (own : Option X) → reverse (xs ++ option_to_list own) ≡ option_to_list own ++ reverse xs
+reverse_more xs None = ap reverse (append-nil xs)
+reverse_more xs (Some x) = reverse-append xs (x ∷ [])
 
 pub number_is : (of_copy groups : List ℕ) (marks : List Marks) (i sender group : ℕ) (c : CaughtFields) (m d : Marks) (own : Option Numbered) → slice_get marks i ≡ Some m → i < length marks
     → sender ≡ slice_index of_copy i → group ≡ slice_index groups sender → own ≡ number_if i sender group (is_numbered (get_or marks i d)) c

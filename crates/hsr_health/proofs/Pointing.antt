@@ -9,7 +9,7 @@ use Rattle.hsr_frame_groups.specs.Frames.{CaughtFields}
 use Rattle.hsr_sightings.specs.Read.{AreNeeded, AreSightings}
 use Rattle.hsr_sightings.specs.Ring.{Ring}
 use Rattle.hsr_sightings.specs.Sightings.{sees_both_ways}
-use Rattle.hsr_sightings.specs.declared.sighting.Sighting.{Sighting}
+use Rattle.hsr_sightings.specs.Fields.{Sighting}
 use Rattle.hsr_health.specs.Counted.{AreBegun, AreOfPoints, OfPoint, changed, one_more}
 use Rattle.hsr_health.specs.declared.directions.PointNumbers.{PointNumbers}
 use Rattle.hsr_health.proofs.Fating.{count_push, count_short, one_step}

@@ -13,7 +13,7 @@ use Rattle.hsr_sightings.specs.Seen.{came_both, fate_of, is_edge, way_of_seen}
 use Rattle.hsr_sightings.specs.Sightings.{Sighting as Seen, came_both_ways, is_first_at_edge, is_more, is_once, is_to_group, sees_both_ways, sightings}
 use Rattle.hsr_sightings.specs.declared.sighting.Fate.{Fate}
 use Rattle.hsr_sightings.specs.declared.sighting.Fate.TheVariants as the_fate
-use Rattle.hsr_sightings.specs.declared.sighting.Sighting.{Sighting}
+use Rattle.hsr_sightings.specs.Fields.{Sighting}
 use Rattle.hsr_taps.specs.Tallies.{is_at as is_in}
 use Rattle.hsr_health.specs.Counted.{is_fate}
 use Rattle.hsr_health.specs.Told.{IsFirstAt, IsFirstFlag, IsOfFrames, IsOfPoints, IsToldAt, IsToldWith, first_frame, is_at_one_sided, is_kept_one_way, is_one_sided, is_one_way_among, kept_one_way_by, one_sided_among, saw_group, spot_if, spot_of}

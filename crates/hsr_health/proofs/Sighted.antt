@@ -16,7 +16,7 @@ use Rattle.hsr_sightings.specs.Seen.{came_both, fate_of, is_edge}
 use Rattle.hsr_sightings.specs.Sightings.{Sighting as Seen, came_both_ways, came_by, first_seen, is_at_edge, is_first_at_edge, is_more, is_once, is_open, is_twice, sighting, sightings, sightings_in}
 use Rattle.hsr_sightings.specs.declared.sighting.Fate.{Fate}
 use Rattle.hsr_sightings.specs.declared.sighting.Fate.TheVariants as the_fate
-use Rattle.hsr_sightings.specs.declared.sighting.Sighting.{Sighting}
+use Rattle.hsr_sightings.specs.Fields.{Sighting}
 use Rattle.hsr_sightings.proofs.Demanding.{begins_by, first_is}
 use Rattle.hsr_sightings.proofs.Gathering.{has_seen}
 use Rattle.hsr_sightings.proofs.Indexes.{none_there}

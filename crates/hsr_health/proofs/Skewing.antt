@@ -12,7 +12,7 @@ use Rattle.hsr_sightings.specs.Read.{AreSightings, first_by}
 use Rattle.hsr_sightings.specs.Ring.{Ring, goes}
 use Rattle.hsr_sightings.specs.Seen.{skew_of}
 use Rattle.hsr_sightings.specs.Sightings.{Sighting as Seen, apart, first_seen, sightings, skew}
-use Rattle.hsr_sightings.specs.declared.sighting.Sighting.{Sighting}
+use Rattle.hsr_sightings.specs.Fields.{Sighting}
 use Rattle.hsr_health.specs.Counted.{AreSources, is_of, skews_of, told_by}
 use Rattle.hsr_spread.specs.Spreads.{IsSpread, IsSpreadOf, amounts_of}
 use Rattle.hsr_spread.specs.declared.spread.Spread.{Spread}

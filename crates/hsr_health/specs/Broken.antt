@@ -7,7 +7,7 @@ use Rattle.hsr_frame_groups.specs.Frames.{CaughtFields}
 use Rattle.hsr_sightings.specs.Ring.{Ring, goes, is_at}
 use Rattle.hsr_sightings.specs.Seen.{came_both}
 use Rattle.hsr_sightings.specs.Sightings.{Sighting, came_both_ways, came_by, is_once, is_to_group, sees_both_ways, sightings}
-use Rattle.hsr_sightings.specs.declared.sighting.Sighting as the_sighting
+use Rattle.hsr_sightings.specs.Fields as the_sighting
 use Rattle.hsr_health.specs.Counted.{changed, goes_to_group, kept_by}
 use Rattle.hsr_health.specs.declared.broken.Going.{Going}
 use Rattle.hsr_health.specs.declared.broken.Span as the_span

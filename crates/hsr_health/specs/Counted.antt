@@ -13,7 +13,7 @@ use Rattle.hsr_sightings.specs.Read.{most_at}
 use Rattle.hsr_sightings.specs.Ring.{Ring, is_in, way_of}
 use Rattle.hsr_sightings.specs.declared.sighting.Fate.{Fate}
 use Rattle.hsr_sightings.specs.declared.sighting.Fate.TheVariants as the_fate
-use Rattle.hsr_sightings.specs.declared.sighting.Sighting as the_sighting
+use Rattle.hsr_sightings.specs.Fields as the_sighting
 use Rattle.hsr_sightings.specs.Seen.{fate_of, skew_of}
 use Rattle.hsr_sightings.specs.Sightings.{Sighting, came_by, is_more, is_once, is_open, is_to_group, is_twice, sees_both_ways, sightings, skew}
 use Rattle.hsr_health.specs.declared.counts.Counts.{Counts}

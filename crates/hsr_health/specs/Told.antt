@@ -37,7 +37,7 @@ use Rattle.hsr_sightings.specs.Ring.{Ring, is_at, point_of}
 use Rattle.hsr_sightings.specs.Seen.{fate_of}
 use Rattle.hsr_sightings.specs.Sightings.{Sighting, is_once, is_to_group, sees_both_ways}
 use Rattle.hsr_sightings.specs.declared.late.Crowd.{Crowd}
-use Rattle.hsr_sightings.specs.declared.sighting.Sighting as the_sighting
+use Rattle.hsr_sightings.specs.Fields as the_sighting
 use Rattle.hsr_taps.specs.Tallies.{is_at as is_in}
 use Rattle.hsr_taps.specs.declared.tapping.Stray.{Stray}
 

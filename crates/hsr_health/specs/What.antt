@@ -21,7 +21,7 @@ use Rattle.hsr_sightings.specs.Copies.{after, first_there, top_before}
 use Rattle.hsr_sightings.specs.Ring.{Ring, point_of, way_of}
 use Rattle.hsr_sightings.specs.Seen.{way_of_seen}
 use Rattle.hsr_sightings.specs.Sightings.{Sighting, came_by}
-use Rattle.hsr_sightings.specs.declared.sighting.Sighting as the_sighting
+use Rattle.hsr_sightings.specs.Fields as the_sighting
 use Rattle.hsr_taps.specs.Directions.{interface_of}
 use Rattle.hsr_taps.specs.declared.tapping.Stray.{Stray}
 

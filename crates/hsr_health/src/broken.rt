@@ -7,7 +7,7 @@ ghost use Rattle.hsr_health.specs.Counted.{AreSources, changed, is_fate, kept_by
 ghost use Rattle.hsr_sightings.specs.Read.{AreSightings};
 ghost use Rattle.hsr_sightings.specs.Seen.{fate_of};
 ghost use Rattle.hsr_sightings.specs.Sightings.{sees_both_ways};
-ghost use Rattle.hsr_sightings.specs.declared.sighting.Sighting as the_sighting;
+ghost use Rattle.hsr_sightings.specs.Fields as the_sighting;
 ghost use Rattle.hsr_health.specs.declared.broken.Span as the_span;
 
 use crate::counts::source_of;
@@ -58,9 +58,9 @@ pub(crate) fn came_by(seen: &Sighting, way: u8) -> bool
     ensures { result ≡ kept_by way seen.now }
 {
     if way == 0 {
-        seen.by_0.is_some()
+        seen.by_0().is_some()
     } else {
-        seen.by_1.is_some()
+        seen.by_1().is_some()
     }
 }
 
@@ -77,7 +77,7 @@ fn marks_by(
 {
     let mut marks = vec![in alloc; false; many]?;
     for i in 0..seen.len() {
-        let source = source_of(of_copy, seen[i].first);
+        let source = source_of(of_copy, seen[i].first());
         put_mark(&mut marks, source, came_by(&seen[i], way));
     }
     Ok(marks)
@@ -126,7 +126,7 @@ fn moment_at(seen: &[Sighting], k: usize) -> u64
 {
     match seen.get(k) {
         None => 0,
-        Some(own) => own.at,
+        Some(own) => own.at(),
     }
 }
 
@@ -169,8 +169,8 @@ fn grow(going: &mut Going, of_copy: &[u32], seen: &Sighting) -> Result<(), NoMem
     ensures seen { OnOk result (going.new.seen.items ≡ going.old.seen.items ++ seen.now ∷ []) }
     ensures is_of { OnOk result (going.new.is_of.items ≡ changed (λ own. own || true) (slice_index of_copy.now seen.now.first) going.old.is_of.items) }
 {
-    going.seen.push(*seen)?;
-    put_mark(&mut going.is_of, source_of(of_copy, seen.first), true);
+    going.seen.push(seen.copied())?;
+    put_mark(&mut going.is_of, source_of(of_copy, seen.first()), true);
     Ok(())
 }
 
@@ -210,9 +210,9 @@ fn end_run(
 fn is_at(copies: &[Caught<'_>], point: usize, seen: &Sighting) -> bool
     ensures { result ≡ kept_at copies.now point seen.now }
 {
-    match copies.get(seen.first as usize) {
+    match copies.get(seen.first() as usize) {
         None => false,
-        Some(caught) => caught.copy.is_to_group() && seen.point == point,
+        Some(caught) => caught.copy().is_to_group() && seen.point() == point,
     }
 }
 
@@ -231,7 +231,7 @@ fn is_over(of_copy: &[u32], is_of: &[bool], seen: &Sighting) -> bool
     ensures { result ≡ is_over of_copy.now is_of.now seen.now }
 {
     let is_own = is_of
-        .get(source_of(of_copy, seen.first))
+        .get(source_of(of_copy, seen.first()))
         .copied()
         .unwrap_or(false);
     seen.came_both_ways() && is_own
@@ -368,7 +368,7 @@ fn put_runs_if(
 fn is_seen(ring: &Ring<'_>, caught: &Caught<'_>, point: usize, way: u8) -> bool
     ensures { result ≡ is_seen ring.now point way caught.now }
 {
-    ring.point_of(caught) == point && ring.way_of(caught) == way && caught.copy.is_to_group()
+    ring.point_of(caught) == point && ring.way_of(caught) == way && caught.copy().is_to_group()
 }
 
 /// Whether the directions of a point carried group frames one way.

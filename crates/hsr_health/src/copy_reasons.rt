@@ -8,7 +8,7 @@ ghost use Rattle.hsr_health.specs.What.{behind_what, behind_what_by, copy_what, 
 ghost use Rattle.hsr_health.specs.declared.reason.Word.TheVariants as the_word;
 ghost use Rattle.hsr_sightings.specs.Copies.{carried_before, is_overtaken};
 ghost use Rattle.hsr_sightings.specs.Ring as the_ring;
-ghost use Rattle.hsr_sightings.specs.declared.sighting.Sighting as the_sighting;
+ghost use Rattle.hsr_sightings.specs.Fields as the_sighting;
 ghost use Rattle.hsr_sightings.specs.Read.{AreOvertaken, AreSightings, TellsEach};
 
 use crate::counts::Marks;
@@ -103,8 +103,8 @@ pub(crate) fn spot_of(caught: &Caught<'_>) -> Spot
     ensures { result ≡ spot_of caught.now }
 {
     Spot {
-        packet: caught.packet,
-        at: caught.at,
+        packet: caught.packet(),
+        at: caught.at(),
     }
 }
 
@@ -112,10 +112,10 @@ pub(crate) fn spot_of(caught: &Caught<'_>) -> Spot
 fn what_of(mark: Mark, caught: &Caught<'_>, time: u64) -> What
     ensures { result ≡ copy_what_by mark time caught.now }
 {
-    let (source, number) = (caught.copy.src, caught.copy.seq);
+    let (source, number) = (caught.copy().src, caught.copy().seq);
     match mark {
         Mark::Storm | Mark::Again => What::Copy {
-            interface: interface_of(caught.direction),
+            interface: interface_of(caught.direction()),
             source,
             number,
         },
@@ -128,13 +128,13 @@ fn what_of(mark: Mark, caught: &Caught<'_>, time: u64) -> What
         Mark::Size => What::Size {
             source,
             number,
-            size: caught.copy.size,
-            is: caught.copy.length.saturating_add(6),
+            size: caught.copy().size,
+            is: caught.copy().length.saturating_add(6),
         },
         Mark::Lane => What::Lane {
             source,
             number,
-            path: caught.copy.path,
+            path: caught.copy().path,
         },
     }
 }
@@ -145,7 +145,7 @@ fn after(sightings: &[Sighting], number: u32, caught: &Caught<'_>) -> u64
 {
     match sightings.get(number as usize) {
         None => 0,
-        Some(seen) => caught.at.saturating_sub(seen.at),
+        Some(seen) => caught.at().saturating_sub(seen.at()),
     }
 }
 
@@ -212,9 +212,9 @@ fn overtaken_at(copies: &[Caught<'_>], first: Overtaken, count: u64) -> Option<R
         count,
         spot: Some(spot_of(caught)),
         what: What::Behind {
-            interface: interface_of(caught.direction),
-            source: caught.copy.src,
-            number: caught.copy.seq,
+            interface: interface_of(caught.direction()),
+            source: caught.copy().src,
+            number: caught.copy().seq,
             behind: first.behind,
         },
     })

@@ -119,13 +119,13 @@ fn mark_by(
 ) -> Marks
     ensures { result ≡ mark_by (is_at is_by_lane.now) ring.now begins is_clash is_late caught.now }
 {
-    let by_lane = is_by_lane.get(caught.direction).copied().unwrap_or(false);
+    let by_lane = is_by_lane.get(caught.direction()).copied().unwrap_or(false);
     Marks {
         begins,
         is_clash,
         is_late,
-        is_wrong_size: !has_right_size(&caught.copy),
-        is_wrong_lane: !by_lane && caught.copy.path % 2 != ring.way_of(caught),
+        is_wrong_size: !has_right_size(&caught.copy()),
+        is_wrong_lane: !by_lane && caught.copy().path % 2 != ring.way_of(caught),
     }
 }
 
@@ -162,7 +162,7 @@ pub(crate) fn source_of(of_copy: &[u32], copy: u32) -> usize
 fn with_copy(counts: Counts, marks: Marks, caught: &Caught<'_>) -> Counts
     ensures { result ≡ counts_with counts marks caught.now.copy.seq }
 {
-    with(counts, marks, caught.copy.seq)
+    with(counts, marks, caught.copy().seq)
 }
 
 /// Counts a copy of a source, if that is among them.
@@ -228,12 +228,12 @@ fn count_sighting(
     ensures counts { (c : CaughtFields) → slice_get copies.now seen.now.first ≡ Some c
         → counts.new.items ≡ changed (with_fate (fate_of ring.now seen.now) (is_group c.copy.dst)) (slice_index of_copy.now seen.now.first) counts.old.items }
 {
-    if let Some(caught) = copies.get(seen.first as usize) {
-        let source = source_of(of_copy, seen.first);
+    if let Some(caught) = copies.get(seen.first() as usize) {
+        let source = source_of(of_copy, seen.first());
         count_fate(
             counts,
             source,
-            caught.copy.is_to_group(),
+            caught.copy().is_to_group(),
             fate_of(ring, seen),
         );
     }
@@ -263,7 +263,7 @@ fn told_of(of_copy: &[u32], seen: &Sighting) -> Option<Told>
     match skew_of(seen) {
         None => None,
         Some(skew) => Some(Told {
-            of: source_of(of_copy, seen.first),
+            of: source_of(of_copy, seen.first()),
             amount: skew / 1000,
         }),
     }

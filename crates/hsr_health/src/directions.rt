@@ -66,7 +66,7 @@ fn no_directions(alloc: Global, many: usize) -> Result<Vec<DirectionNumbers>, No
 fn direction_of(caught: &Caught<'_>) -> usize
     ensures { result ≡ caught.now.direction }
 {
-    caught.direction
+    caught.direction()
 }
 
 /// Counts a copy of a direction, if that is among them.
@@ -183,9 +183,9 @@ fn is_open(ring: &Ring<'_>, seen: &Sighting) -> bool
 fn is_judged(ring: &Ring<'_>, copies: &[Caught<'_>], seen: &Sighting, way: u8) -> bool
     ensures { result ≡ is_judged ring.now copies.now way seen.now }
 {
-    match copies.get(seen.first as usize) {
+    match copies.get(seen.first() as usize) {
         None => false,
-        Some(caught) => caught.copy.is_to_group() && !is_open(ring, seen) && came_by(seen, way),
+        Some(caught) => caught.copy().is_to_group() && !is_open(ring, seen) && came_by(seen, way),
     }
 }
 

@@ -229,7 +229,7 @@ fn vlan_key(caught: &Caught<'_>, begins: bool) -> Option<u64>
     ensures small { IfSome result (λ n. n < 65537) }
 {
     if begins {
-        Some(vlan_rank(caught.copy.vlan))
+        Some(vlan_rank(caught.copy().vlan))
     } else {
         None
     }

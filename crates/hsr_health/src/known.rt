@@ -5,7 +5,7 @@ ghost use Rattle.hsr_health.specs.Whole.{AreAlike, AreAsMany, AreCaught, AreMore
 ghost use Rattle.hsr_taps.specs.declared.direction.Taps as the_taps;
 
 use crate::counts::{Counts, counts_of, source_of};
-use crate::ledger::{Ledger, frame_numbers, groups_of, ledger_of, life_numbers};
+use crate::ledger::{Ledger, frame_runs, groups_of, ledger_of, life_runs};
 use crate::seen::Seen;
 use crate::sources::Sources;
 use hsr_frame::NoMemory;
@@ -120,15 +120,15 @@ pub(crate) fn known_of(
     let Hearing { heard, unread } = hearing_of(alloc, ring, copies, began)?;
     count_lives(&mut counts, heard.as_slice(), of_copy);
     count_unread(&mut counts, unread.as_slice(), of_copy);
-    let said = life_numbers(alloc, heard.as_slice(), of_copy)?;
+    let said = life_runs(alloc, heard.as_slice(), of_copy)?;
     let lives = ledger_of(alloc, said, many)?;
     let abouts = abouts_of(alloc, heard, ring.start, ring.end)?;
     let macs = sources.macs.as_slice();
     let told = abouts.all.as_slice();
     let groups = groups_of(alloc, macs, told)?;
     let of_source = groups.as_slice();
-    let numbers = frame_numbers(alloc, copies, of_copy, of_source, marks)?;
-    let ledger = ledger_of(alloc, numbers, many)?;
+    let placed = frame_runs(alloc, copies, of_copy, of_source, marks)?;
+    let ledger = ledger_of(alloc, placed, many)?;
     Ok(Known {
         counts,
         abouts,

@@ -1,10 +1,11 @@
 //! The numbers of sources: gaps and restarts. A RedBox and its stations count together, so they are one group.
-ghost use Rattle.std.specs.Prelude.{◌≡◌, ◌<◌, ◌≤◌, ◌^◌, ◌++◌, ℕ, Bool, filter_map, find, length, map, option_to_list, reverse, slice_index, IfOk, OnOk};
+ghost use Rattle.std.specs.Prelude.{◌≡◌, ◌<◌, ◌≤◌, ◌^◌, ◌++◌, ℕ, Bool, List, filter_map, find, length, map, option_to_list, slice_index, IfOk, OnOk};
 ghost use Rattle.hsr_frame.specs.Address.{is_same_address};
 ghost use Rattle.hsr_health.specs.Counted.{changed, mark_of};
 ghost use Rattle.hsr_heard.specs.Hearing.{those_of};
 ghost use Rattle.hsr_health.specs.Numbering.{AreByRun, AreGroups, IsFirstSame, IsLedger, group_name, is_numbered, life_number, number_if, numbered_at, sums_by, with_gap, with_gaps, with_restart, with_restarts};
-ghost use Rattle.hsr_number_runs.specs.Runs.{in_runs, restarts_in};
+ghost use Rattle.hsr_number_runs.specs.Counting.{AreRunsOf, AreSoFar};
+ghost use Rattle.hsr_number_runs.specs.declared.run.Numbered.{Numbered};
 ghost use Rattle.hsr_sightings.specs.Ring as the_ring;
 ghost use Rattle.hsr_sightings.specs.Read.{TellsEach};
 
@@ -12,7 +13,7 @@ use crate::counts::{Marks, source_of};
 use hsr_frame::{Mac, NoMemory};
 use hsr_frame_groups::Caught;
 use hsr_heard::{About, Heard};
-use hsr_number_runs::{Gap, InRun, Numbered, Restart, Runs, elsewhere_of, gaps_of, runs_of};
+use hsr_number_runs::{Gap, InRun, Numbered, Restart, Runs, RunsSoFar, elsewhere_of, gaps_of};
 use std::alloc::Global;
 
 /// How many gaps a group's numbers have, how many numbers are missing, and how often they began anew.
@@ -119,8 +120,8 @@ fn number_if(
         Some(Numbered {
             group,
             sender,
-            number: caught.copy.seq,
-            at: caught.at,
+            number: caught.copy().seq,
+            at: caught.at(),
             copy: i,
         })
     } else {
@@ -128,40 +129,42 @@ fn number_if(
     }
 }
 
-/// Puts a number behind others, if there is one.
-fn put_number(numbers: &mut Vec<Numbered>, number: Option<Numbered>) -> Result<(), NoMemory>
-    ensures { OnOk result (numbers.new.items ≡ numbers.old.items ++ option_to_list number) }
+/// Puts a number into its run, if there is one.
+fn put_number(
+    alloc: Global,
+    so_far: &mut RunsSoFar,
+    number: Option<Numbered>,
+) -> Result<(), NoMemory>
+    requires { (past : List Numbered) × AreSoFar so_far.old past × (length past < 2 ^ 31) }
+    ensures { OnOk result ((past : List Numbered) → length past < 2 ^ 31 → AreSoFar so_far.old past → AreSoFar so_far.new (option_to_list number ++ past)) }
 {
     if let Some(number) = number {
-        numbers.push(number)?;
+        so_far.put(alloc, number)?;
     }
     Ok(())
 }
 
-/// The numbers of frames, in the order of time: those of copies that begin one and are no clash.
-pub(crate) fn frame_numbers(
+/// The numbers of frames in their runs, in the order of time: those of copies that begin one and are no clash.
+pub(crate) fn frame_runs(
     alloc: Global,
     copies: &[Caught<'_>],
     of_copy: &[u32],
     groups: &[usize],
     marks: &[Marks],
-) -> Result<Vec<Numbered>, NoMemory>
-    requires few { length copies.now < 2 ^ 32 }
+) -> Result<Runs, NoMemory>
+    requires few { length copies.now < 2 ^ 31 }
     requires marks { length marks.now ≡ length copies.now }
-    ensures long { IfOk result (λ numbers. length numbers.items ≤ length copies.now) }
-    ensures numbers { IfOk result (λ numbers. (is_by_lane : ℕ → Bool) (ring : the_ring.Ring) → TellsEach (mark_of is_by_lane ring) copies.now marks.now
-        → numbers.items ≡ those_of (numbered_at of_copy.now groups.now) copies.now) }
+    ensures { IfOk result (λ runs. (is_by_lane : ℕ → Bool) (ring : the_ring.Ring) → TellsEach (mark_of is_by_lane ring) copies.now marks.now
+        → AreRunsOf (those_of (numbered_at of_copy.now groups.now) copies.now) runs) }
 {
-    let mut numbers = Vec::new(alloc);
+    let mut so_far = RunsSoFar::with_capacity(alloc, copies.len())?;
     for i in 0..copies.len() {
         let sender = source_of(of_copy, i as u32);
         let group = group_of(groups, sender);
-        put_number(
-            &mut numbers,
-            number_if(&copies[i], marks[i], i as u32, sender, group),
-        )?;
+        let number = number_if(&copies[i], marks[i], i as u32, sender, group);
+        put_number(alloc, &mut so_far, number)?;
     }
-    Ok(numbers)
+    Ok(so_far.runs())
 }
 
 /// The number of a supervision frame, by the copy that began it.
@@ -182,19 +185,16 @@ fn life_number(one: &Heard, of_copy: &[u32]) -> Option<Numbered>
     }
 }
 
-/// The numbers of supervision frames, in the order of time: each source counts its own.
-pub(crate) fn life_numbers(
-    alloc: Global,
-    heard: &[Heard],
-    of_copy: &[u32],
-) -> Result<Vec<Numbered>, NoMemory>
-    ensures { IfOk result (λ numbers. numbers.items ≡ filter_map (life_number of_copy.now) heard.now) }
+/// The numbers of supervision frames in their runs, in the order of time: each source counts its own.
+pub(crate) fn life_runs(alloc: Global, heard: &[Heard], of_copy: &[u32]) -> Result<Runs, NoMemory>
+    requires { length heard.now < 2 ^ 31 }
+    ensures { IfOk result (λ runs. AreRunsOf (filter_map (life_number of_copy.now) heard.now) runs) }
 {
-    let mut numbers = Vec::new(alloc);
+    let mut so_far = RunsSoFar::with_capacity(alloc, heard.len())?;
     for one in heard {
-        put_number(&mut numbers, life_number(one, of_copy))?;
+        put_number(alloc, &mut so_far, life_number(one, of_copy))?;
     }
-    Ok(numbers)
+    Ok(so_far.runs())
 }
 
 /// With a gap.
@@ -284,26 +284,11 @@ fn by_run(in_runs: Vec<InRun>) -> Vec<InRun>
     sorted
 }
 
-/// Numbers that are in the order of time, put into runs. The numbers go here: these and the runs would be the most that is there at a time.
-fn put_in_runs(alloc: Global, numbers: Vec<Numbered>) -> Result<Runs, NoMemory>
-    requires { length numbers.items < 2 ^ 31 }
-    ensures in_runs { IfOk result (λ runs. runs.in_runs.items ≡ reverse (in_runs (reverse numbers.items))) }
-    ensures restarts { IfOk result (λ runs. runs.restarts.items ≡ restarts_in (reverse numbers.items)) }
+/// What numbers in their runs tell; there are so many senders, and no more groups.
+pub(crate) fn ledger_of(alloc: Global, runs: Runs, many: usize) -> Result<Ledger, NoMemory>
+    ensures { IfOk result (λ ledger. (numbers : List Numbered) → AreRunsOf numbers runs → IsLedger numbers many ledger) }
 {
-    let runs = runs_of(alloc, numbers.as_slice())?;
-    Ok(runs)
-}
-
-/// What numbers tell, which are in the order of time; there are so many senders, and no more groups.
-pub(crate) fn ledger_of(
-    alloc: Global,
-    numbers: Vec<Numbered>,
-    many: usize,
-) -> Result<Ledger, NoMemory>
-    requires { length numbers.items < 2 ^ 31 }
-    ensures { IfOk result (λ ledger. IsLedger numbers.items many ledger) }
-{
-    let Runs { in_runs, restarts } = put_in_runs(alloc, numbers)?;
+    let Runs { in_runs, restarts } = runs;
     let in_runs = by_run(in_runs);
     let gaps = gaps_of(alloc, in_runs.as_slice())?;
     let elsewhere = elsewhere_of(alloc, in_runs.as_slice(), many)?;

@@ -9,7 +9,7 @@ ghost use Rattle.hsr_health.specs.declared.reason.Word.TheVariants as the_word;
 ghost use Rattle.hsr_sightings.specs.Read.{AreSightings};
 ghost use Rattle.hsr_sightings.specs.Ring.{is_at, point_of};
 ghost use Rattle.hsr_sightings.specs.Sightings.{sees_both_ways, sightings};
-ghost use Rattle.hsr_sightings.specs.declared.sighting.Sighting as the_sighting;
+ghost use Rattle.hsr_sightings.specs.Fields as the_sighting;
 ghost use Rattle.hsr_taps.specs.Tallies.{is_at as is_in};
 
 use crate::copy_reasons::{count_of, first_of, spot_of};
@@ -23,7 +23,7 @@ use std::alloc::Global;
 fn is_group_at(ring: &Ring<'_>, caught: &Caught<'_>, point: usize) -> bool
     ensures { result ≡ (is_at ring.now point caught.now && is_group caught.now.copy.dst) }
 {
-    ring.point_of(caught) == point && caught.copy.is_to_group()
+    ring.point_of(caught) == point && caught.copy().is_to_group()
 }
 
 /// Whether a point saw a group frame.
@@ -66,7 +66,7 @@ fn one_sided_of(
 fn is_at_one_sided(ring: &Ring<'_>, caught: &Caught<'_>, flags: &[bool]) -> bool
     ensures { result ≡ (is_in flags.now (point_of ring.now caught.now) && is_group caught.now.copy.dst) }
 {
-    flags.get(ring.point_of(caught)).copied().unwrap_or(false) && caught.copy.is_to_group()
+    flags.get(ring.point_of(caught)).copied().unwrap_or(false) && caught.copy().is_to_group()
 }
 
 /// The first copy of a group frame at one of the points that are set, by its index.
@@ -118,12 +118,12 @@ pub(crate) fn one_sided_reason(
 fn is_one_way(ring: &Ring<'_>, copies: &[Caught<'_>], both: &[bool], seen: &Sighting) -> bool
     ensures { result ≡ is_kept_one_way ring.now copies.now both.now seen.now }
 {
-    match copies.get(seen.first as usize) {
+    match copies.get(seen.first() as usize) {
         None => false,
         Some(caught) => {
-            caught.copy.is_to_group()
+            caught.copy().is_to_group()
                 && fate_of(ring, seen) == Fate::Once
-                && both.get(seen.point).copied().unwrap_or(false)
+                && both.get(seen.point()).copied().unwrap_or(false)
         }
     }
 }
@@ -151,15 +151,15 @@ fn one_way_at(copies: &[Caught<'_>], all: &[Sighting], first: usize, count: u64)
         → IsToldWith the_word.OneWay count (Some (spot_of c)) (kept_alone_what seen c) result }
 {
     let seen = all.get(first)?;
-    let caught = copies.get(seen.first as usize)?;
+    let caught = copies.get(seen.first() as usize)?;
     Some(Reason {
         word: Word::OneWay,
         count,
         spot: Some(spot_of(caught)),
         what: What::Alone {
-            point: seen.point,
-            source: caught.copy.src,
-            number: caught.copy.seq,
+            point: seen.point(),
+            source: caught.copy().src,
+            number: caught.copy().seq,
             way: seen.way(),
         },
     })

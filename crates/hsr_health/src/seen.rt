@@ -59,13 +59,14 @@ pub(crate) fn seen_of(
     let firsts = frames.as_slice();
     let carried = carried_of(alloc, copies, firsts)?;
     let before = carried.as_slice();
-    let sightings = sightings_of(alloc, ring, copies, firsts, before)?;
-    let began = begins_of(alloc, copies, firsts)?;
+    // What needs much room for itself comes before the sightings, which stay.
+    let overtaken = overtaken_of(alloc, copies, firsts, before)?;
     let clashes = clashes_of(alloc, copies, firsts)?;
+    let began = begins_of(alloc, copies, firsts)?;
+    let sightings = sightings_of(alloc, ring, copies, firsts, before)?;
     let all = sightings.all.as_slice();
     let numbers = sightings.of_copy.as_slice();
     let lates = lates_of(alloc, copies, all, numbers)?;
-    let overtaken = overtaken_of(alloc, copies, firsts, before)?;
     let lanes = by_lane(alloc, taps)?;
     let begun = began.as_slice();
     let differs = clashes.as_slice();

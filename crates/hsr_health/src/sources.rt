@@ -26,7 +26,7 @@ fn source_of(caught: &Caught<'_>) -> u64
     ensures number { result ≡ source_number caught.now }
     ensures address { IsAddress caught.now.copy.src }
 {
-    number_of(caught.copy.src)
+    number_of(caught.copy().src)
 }
 
 /// The sources of copies, as numbers.

@@ -59,9 +59,9 @@ fn put_read(
         Ok(said) => {
             hearing.heard.push(Heard {
                 said,
-                source: caught.copy.src,
+                source: caught.copy().src,
                 copy: i,
-                at: caught.at,
+                at: caught.at(),
                 way: ring.way_of(caught),
                 begins,
             })?;
@@ -87,10 +87,10 @@ fn put_copy(
     ensures heard { OnOk result (hearing.new.heard.items ≡ hearing.old.heard.items ++ option_to_list (heard_if ring.now i begins caught.now)) }
     ensures unread { OnOk result (hearing.new.unread.items ≡ hearing.old.unread.items ++ option_to_list (unread_if i begins caught.now)) }
 {
-    if !caught.copy.is_supervision() {
+    if !caught.copy().is_supervision() {
         return Ok(());
     }
-    let read = said_by(alloc, &caught.copy)?;
+    let read = said_by(alloc, &caught.copy())?;
     put_read(hearing, ring, caught, i, begins, read)
 }
 

@@ -1,15 +1,16 @@
 -- Numbers that are put into runs, one after the other.
-use Rattle.std.proofs.Common.{◌≡◌, ℕ, ◌+◌, ◌*◌, ◌-◌, ◌<◌, ◌≤◌, ◌^◌, Bool, true, false, cond, max, List, [], ◌∷◌, ◌++◌, length, reverse, take, get_or, refl, sym, ap, subst, ◌∙◌, arith, Option, Some, None}
-use Rattle.std.specs.Prelude.{◌==◌, ◌&&◌, ◌||◌, ◌%◌, nat_eq, nat_lt, nat_le, IfSome, unwrap_or, option_to_list}
+use Rattle.std.proofs.Common.{◌≡◌, ℕ, ◌+◌, ◌*◌, ◌-◌, ◌<◌, ◌≤◌, ◌^◌, Bool, true, false, cond, max, true≢false, List, [], ◌∷◌, ◌++◌, length, reverse, take, get_or, set, refl, sym, ap, subst, ◌∙◌, arith, Option, Some, None}
+use Rattle.std.specs.Prelude.{◌/◌, ◌==◌, ◌&&◌, ◌||◌, ◌%◌, nat_eq, nat_lt, nat_le, IfSome, unwrap_or, option_to_list}
 use Rattle.std.specs.HashMap.{get}
-use Rattle.std.specs.HashSet.{contains_by}
-use Rattle.std.proofs.lemmas.Bool.{eqb-true, ltb-true}
-use Rattle.std.proofs.lemmas.List.{take_more, reverse-append}
+use Rattle.std.proofs.lemmas.Bool.{eq-eqb, eqb-true, ltb-true}
+use Rattle.std.proofs.lemmas.Bool.Decides.{nat_tests}
+use Rattle.std.proofs.lemmas.Grind.{get_or-set_at}
+use Rattle.std.proofs.lemmas.List.{get_or-set_other, take_more, reverse-append}
 use Rattle.hsr_number_runs.specs.declared.run.Counting.{Counting}
 use Rattle.hsr_number_runs.specs.declared.run.InRun.{InRun}
 use Rattle.hsr_number_runs.specs.declared.run.Numbered.{Numbered}
 use Rattle.hsr_number_runs.specs.declared.run.Restart.{Restart}
-use Rattle.hsr_number_runs.specs.Counting.{IsPlaced, Knows}
+use Rattle.hsr_number_runs.specs.Counting.{AreMarked, AreMarkedBy, IsPlaced, Knows, is_marked, same_block}
 use Rattle.hsr_number_runs.specs.Runs.{begun, extended_by, gone_on, greater, in_run, in_runs, is_there, put_in, restart_by, restart_of, restarts, restarts_by, restarts_in, run_count, top_of}
 
 -- ---- lists
@@ -27,18 +28,52 @@ one_more_top p top own g before kept new is top_is own_is kept_is = is ∙ by_ca
     by_case true same = ap Some (top_is ∙ ap (greater p) (own_is ∙ ap (λ k. top_of k before) (eqb-true p.group g same)))
     by_case false other = kept_is
 
-one_more_there : (b old new was : Bool) → new ≡ cond b true old → old ≡ was → new ≡ (b || was)
-one_more_there true old new was is h = is
-one_more_there false old new was is h = is ∙ h
+-- the marks of a block, with one more
+one_more_mark : (marks : List Bool) (j k : ℕ) → j < length marks → get_or (set marks j true) k false ≡ (nat_eq j k || get_or marks k false)
+one_more_mark marks j k below = by_case (nat_eq j k) refl
+  where
+    by_case : (b : Bool) → nat_eq j k ≡ b → get_or (set marks j true) k false ≡ (b || get_or marks k false)
+    by_case true same = get_or-set_at marks j k true false (sym (eqb-true j k same)) below
+    by_case false other = get_or-set_other marks j k true false (λ is. absurd (true≢false (sym (eq-eqb j k (sym is)) ∙ other)))
+
+-- a number of a block is the one that is put, or another one
+same_mark : (run r put extended e : ℕ) → run ≡ r → put ≡ extended → extended / 8 ≡ e / 8 → nat_eq (extended % 8) (e % 8) ≡ ((run == r) && (put == e))
+same_mark run r put extended e run_is put_is block = grind (arith, nat_tests)
+
+other_mark : (own run r put extended e : ℕ) → own ≡ run → put ≡ extended → (nat_eq run r && nat_eq (extended / 8) (e / 8)) ≡ false → ((own == r) && (put == e)) ≡ false
+other_mark own run r put extended e own_is put_is other = grind (arith, nat_tests)
+
+both_true : (a b : Bool) → (a && b) ≡ true → (a ≡ true) × (b ≡ true)
+both_true true b is = (refl, is)
+both_true false b is = absurd cc
+
+pub put_marked : (old new : ℕ × ℕ → Option (List Bool)) (p : InRun) (run extended : ℕ) (marks : List Bool) (before : List InRun) → extended % 8 < length marks
+    → ((k : ℕ) → get_or marks k false ≡ is_marked (old (run, extended / 8)) k)
+    → ((key : ℕ × ℕ) → new key ≡ cond (same_block (run, extended / 8) key) (Some (set marks (extended % 8) true)) (old key))
+    → AreMarkedBy old before → p.run ≡ run → p.extended ≡ extended → AreMarkedBy new (p ∷ before)
+put_marked old new p run extended marks before below are update known run_is extended_is r e = by_block (same_block (run, extended / 8) (r, e / 8)) refl
+  where
+    by_block : (b : Bool) → same_block (run, extended / 8) (r, e / 8) ≡ b
+        → is_marked (new (r, e / 8)) (e % 8) ≡ (((p.run == r) && (p.extended == e)) || is_there r e before)
+    by_block true same =
+        let both = both_true (nat_eq run r) (nat_eq (extended / 8) (e / 8)) same in
+        let runs : run ≡ r = eqb-true run r both.0 in
+        let blocks : extended / 8 ≡ e / 8 = eqb-true (extended / 8) (e / 8) both.1 in
+        let here = update (r, e / 8) ∙ ap (λ x. cond x (Some (set marks (extended % 8) true)) (old (r, e / 8))) same in
+        let others = are (e % 8) ∙ ap (λ x. is_marked (old (x, extended / 8)) (e % 8)) runs ∙ ap (λ x. is_marked (old (r, x)) (e % 8)) blocks ∙ known r e in
+        ap (λ o. is_marked o (e % 8)) here ∙ one_more_mark marks (extended % 8) (e % 8) below ∙ ap (λ x. nat_eq (extended % 8) (e % 8) || x) others
+        ∙ ap (λ x. x || is_there r e before) (same_mark p.run r p.extended extended e (run_is ∙ runs) extended_is blocks)
+    by_block false other =
+        let here = update (r, e / 8) ∙ ap (λ x. cond x (Some (set marks (extended % 8) true)) (old (r, e / 8))) other in
+        ap (λ o. is_marked o (e % 8)) here ∙ known r e ∙ ap (λ x. x || is_there r e before) (sym (other_mark p.run run r p.extended extended e run_is extended_is other))
 
 pub put_knows : (old new : Counting) (p top : InRun) (own : Option InRun) (before : List InRun) → top ≡ greater p own → own ≡ get nat_eq old.tops p.group
     → ((g : ℕ) → get nat_eq new.tops g ≡ cond (nat_eq p.group g) (Some top) (get nat_eq old.tops g))
-    → ((run extended : ℕ) → contains_by (λ k. (run == k.0) && (extended == k.1)) new.there
-    ≡ cond ((p.run == run) && (p.extended == extended)) true (contains_by (λ k. (run == k.0) && (extended == k.1)) old.there))
+    → (AreMarked old before → AreMarked new (p ∷ before))
     → new.runs ≡ max old.runs (p.run + 1) → Knows old before → Knows new (p ∷ before)
 put_knows old new p top own before top_is own_is tops there runs known = record {
   tops = λ g. one_more_top p top own g before (get nat_eq old.tops g) (get nat_eq new.tops g) (tops g) top_is (own_is ∙ known.tops p.group) (known.tops g);
-  there = λ run extended. one_more_there ((p.run == run) && (p.extended == extended)) _ _ _ (there run extended) (known.there run extended);
+  there = there known.there;
   runs = runs ∙ ap (λ n. max n (p.run + 1)) known.runs;
 }
 

@@ -13,4 +13,4 @@ mod run;
 
 pub use elsewhere::elsewhere_of;
 pub use gaps::{Gap, gaps_of};
-pub use run::{FORGET_TIME, InRun, Numbered, Restart, Runs, runs_of};
+pub use run::{FORGET_TIME, InRun, Numbered, Restart, Runs, RunsSoFar};

@@ -1,13 +1,14 @@
 //! Numbers put into the run of their group, or into a new one.
-ghost use Rattle.std.specs.Prelude.{◌≡◌, ℕ, ◌+◌, ◌<◌, ◌^◌, ◌∷◌, ◌++◌, if◌then◌else◌, [], List, length, reverse, option_to_list, IfOk, IfSome, OnOk, nat_eq};
+ghost use Rattle.std.specs.Prelude.{◌≡◌, ℕ, ◌+◌, ◌<◌, ◌^◌, ◌∷◌, ◌++◌, if◌then◌else◌, [], false, List, length, reverse, slice_index_or, option_to_list, IfOk, IfSome, OnOk, nat_eq};
 ghost use Rattle.std.specs.HashMap.{get};
-ghost use Rattle.hsr_number_runs.specs.Counting.{IsPlaced, Knows};
+ghost use Rattle.hsr_number_runs.specs.Counting.{AreMarked, AreRunsOf, IsPlaced, AreSoFar, Knows, is_marked, same_block};
 ghost use Rattle.hsr_number_runs.specs.Runs.{begun, extended_by, gone_on, greater, in_runs, is_there, put_in, restart_by, restarts_by, restarts_in, top_of};
 ghost use Rattle.hsr_number_runs.specs.declared.run.InRun.{InRun};
+ghost use Rattle.hsr_number_runs.specs.declared.run.Numbered.{Numbered};
 
 use hsr_frame::NoMemory;
 use std::alloc::Global;
-use std::collections::{HashMap, HashSet};
+use std::collections::HashMap;
 
 /// How long a node remembers a frame, in nanoseconds.
 pub const FORGET_TIME: u64 = 400_000_000;
@@ -18,24 +19,28 @@ const NEAR: u64 = 4096;
 /// How many numbers there are.
 const ROUND: u64 = 65536;
 
+/// How many extended numbers have their marks together: a capture's numbers mostly follow one another, so that a mark takes little more
+/// than an octet of room.
+const BLOCK: u64 = 8;
+
 /// A number that came: of which group, who in it sent it, when, and by which copy.
 #[derive(Clone, Copy, Debug, PartialEq, Eq)]
 pub struct Numbered {
+    pub at: u64,
     pub group: usize,
     pub sender: usize,
-    pub number: u16,
-    pub at: u64,
     pub copy: u32,
+    pub number: u16,
 }
 
 /// A number in a run: extended, it counts on where numbers begin anew, from 65536 on.
 #[derive(Clone, Copy, Debug, PartialEq, Eq)]
 pub struct InRun {
-    pub run: u32,
     pub extended: u64,
+    pub at: u64,
     pub group: usize,
     pub sender: usize,
-    pub at: u64,
+    pub run: u32,
     pub copy: u32,
 }
 
@@ -53,7 +58,7 @@ pub struct Restart {
     pub since: u64,
 }
 
-/// All numbers, in the order of time, each in its run, and all restarts.
+/// Numbers, in the order of time, each in its run, and the restarts among them.
 #[derive(Drop)]
 pub struct Runs {
     pub in_runs: Vec<InRun>,
@@ -65,8 +70,8 @@ pub struct Runs {
 struct Counting {
     /// Of each group the greatest number of its latest run.
     tops: HashMap<usize, InRun>,
-    /// The extended numbers of each run.
-    there: HashSet<(u32, u64)>,
+    /// Of each eight extended numbers of a run whether they are there.
+    there: HashMap<(u32, u64), [bool; 8]>,
     /// How many runs were begun.
     runs: u32,
 }
@@ -182,7 +187,7 @@ impl Counting {
     {
         Counting {
             tops: HashMap::new(alloc),
-            there: HashSet::new(alloc),
+            there: HashMap::new(alloc),
             runs: 0,
         }
     }
@@ -194,11 +199,36 @@ impl Counting {
         self.tops.get(&group).copied()
     }
 
+    /// Whether the eight extended numbers of a block of a run are there.
+    fn marks_of(&self, run: u32, block: u64) -> [bool; 8]
+        ensures { (k : ℕ) → slice_index_or result k false ≡ is_marked (get same_block self.now.there (run, block)) k }
+    {
+        match self.there.get(&(run, block)) {
+            None => [false; 8],
+            Some(marks) => *marks,
+        }
+    }
+
     /// Whether a run has an extended number.
     fn is_there(&self, run: u32, extended: u64) -> bool
         ensures { (before : List InRun) → Knows self.now before → result ≡ is_there run extended before }
     {
-        self.there.contains(&(run, extended))
+        let marks = self.marks_of(run, extended / BLOCK);
+        marks[(extended % BLOCK) as usize]
+    }
+
+    /// Notes that a run has an extended number.
+    fn put_there(&mut self, run: u32, extended: u64) -> Result<(), NoMemory>
+        ensures there { OnOk result ((before : List InRun) → AreMarked self.old before
+            → (p : InRun) → p.run ≡ run → p.extended ≡ extended → AreMarked self.new (p ∷ before)) }
+        ensures tops { self.new.tops ≡ self.old.tops }
+        ensures runs { self.new.runs ≡ self.old.runs }
+    {
+        let block = extended / BLOCK;
+        let mut marks = self.marks_of(run, block);
+        marks[(extended % BLOCK) as usize] = true;
+        self.there.insert((run, block), marks)?;
+        Ok(())
     }
 
     /// The number in the run that has this greatest one so far; none where it begins a new run.
@@ -242,27 +272,51 @@ impl Counting {
         let own = self.top_of(p.group);
         let top = greater(p, own);
         self.tops.insert(p.group, top)?;
-        self.there.insert((p.run, p.extended))?;
+        self.put_there(p.run, p.extended)?;
         self.runs = self.runs.max(p.run + 1);
         Ok(())
     }
 }
 
-/// Numbers in the order of time, put into runs, and the restarts among them. `NoMemory` where room is refused.
-pub fn runs_of(alloc: Global, numbers: &[Numbered]) -> Result<Runs, NoMemory>
-    requires { length numbers.now < 2 ^ 31 }
-    ensures in_runs { IfOk result (λ runs. runs.in_runs.items ≡ reverse (in_runs (reverse numbers.now))) }
-    ensures restarts { IfOk result (λ runs. runs.restarts.items ≡ restarts_in (reverse numbers.now)) }
-{
-    let mut counting = Counting::new(alloc);
-    // As much room as there will be numbers: a list that grows by doubling takes up to twice that.
-    let mut in_runs = Vec::with_capacity(alloc, numbers.len())?;
-    let mut restarts = Vec::new(alloc);
-    for n in numbers {
-        let placed = counting.place(*n);
-        counting.put(alloc, placed.in_run)?;
-        in_runs.push(placed.in_run)?;
-        put_restart(&mut restarts, placed.restart)?;
+/// Numbers that are put into runs, one after the other, in the order of time. No list of the numbers themselves is needed.
+#[derive(Drop)]
+pub struct RunsSoFar {
+    counting: Counting,
+    in_runs: Vec<InRun>,
+    restarts: Vec<Restart>,
+}
+
+impl RunsSoFar {
+    /// No number was put. As much room is taken as so many numbers need: a list that grows by doubling takes up to twice that.
+    pub fn with_capacity(alloc: Global, many: usize) -> Result<RunsSoFar, NoMemory>
+        ensures { IfOk result (λ so_far. AreSoFar so_far []) }
+    {
+        Ok(RunsSoFar {
+            counting: Counting::new(alloc),
+            in_runs: Vec::with_capacity(alloc, many)?,
+            restarts: Vec::new(alloc),
+        })
     }
-    Ok(Runs { in_runs, restarts })
+
+    /// Puts the next number into its run. `NoMemory` where room is refused.
+    pub fn put(&mut self, alloc: Global, n: Numbered) -> Result<(), NoMemory>
+        requires { (past : List Numbered) × AreSoFar self.old past × (length past < 2 ^ 31) }
+        ensures { OnOk result ((past : List Numbered) → length past < 2 ^ 31 → AreSoFar self.old past → AreSoFar self.new (n ∷ past)) }
+    {
+        let placed = self.counting.place(n);
+        self.counting.put(alloc, placed.in_run)?;
+        self.in_runs.push(placed.in_run)?;
+        put_restart(&mut self.restarts, placed.restart)?;
+        Ok(())
+    }
+
+    /// All numbers in their runs, and the restarts among them.
+    pub fn runs(self) -> Runs
+        ensures { (numbers : List Numbered) → AreSoFar self (reverse numbers) → AreRunsOf numbers result }
+    {
+        Runs {
+            in_runs: self.in_runs,
+            restarts: self.restarts,
+        }
+    }
 }

@@ -11,7 +11,7 @@ use Rattle.hsr_sightings.specs.Frames.{frame_of}
 use Rattle.hsr_sightings.specs.Read.{AreNeeded, AreSightings, HaveOwnNumbers, IsBegun, IsSameSighting, IsSightingOf, most_in}
 use Rattle.hsr_sightings.specs.Ring.{Ring, forget_time, is_at, point_of}
 use Rattle.hsr_sightings.specs.Sightings.{sighting}
-use Rattle.hsr_sightings.specs.declared.sighting.Sighting.{Sighting}
+use Rattle.hsr_sightings.specs.Fields.{Sighting}
 use Rattle.hsr_sightings.proofs.Gathering.{few_begun, gather, has_seen, long_past, more_begun, same_begin, seen_to, slice_get_set, still_begun}
 use Rattle.hsr_sightings.proofs.Indexes.{none_there, past_more}
 

@@ -15,7 +15,7 @@ use Rattle.hsr_sightings.specs.Read.{AreRead, AreSightingKeys, AreSightings, Has
 use Rattle.hsr_sightings.specs.Ring.{Ring, goes, is_at, is_in, point_of, way_of}
 use Rattle.hsr_sightings.specs.Seen.{begun, first_of, joined, key_by}
 use Rattle.hsr_sightings.specs.Sightings.{first_seen, is_more, sighting}
-use Rattle.hsr_sightings.specs.declared.sighting.Sighting.{Sighting}
+use Rattle.hsr_sightings.specs.Fields.{Sighting}
 use Rattle.hsr_sightings.proofs.Counting.{slice_get_end, slice_get_left}
 use Rattle.hsr_sightings.proofs.Indexes.{first_there, keys_rise, none_there, past_more, past_same, previous_at, same_first, same_frame, within_frame}
 

@@ -6,3 +6,4 @@ pub mod Passing
 pub mod Gathering
 pub mod Demanding
 pub mod Crowding
+pub mod Moments

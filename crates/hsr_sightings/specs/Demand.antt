@@ -4,7 +4,7 @@ use Rattle.hsr_frame_groups.specs.Frames.{CaughtFields, past_of}
 use Rattle.hsr_sightings.specs.Copies.{begun_at, needed}
 use Rattle.hsr_sightings.specs.Read.{most_in}
 use Rattle.hsr_sightings.specs.Ring.{Ring, forget_time}
-use Rattle.hsr_sightings.specs.declared.sighting.Sighting.{Sighting}
+use Rattle.hsr_sightings.specs.Fields.{Sighting}
 
 -- one more frame began at a point
 abbrev pub one_more : List ℕ → ℕ → List ℕ

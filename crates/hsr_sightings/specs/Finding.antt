@@ -4,7 +4,7 @@ use Rattle.hsr_frame_groups.specs.Frames.{CaughtFields, past_of}
 use Rattle.hsr_sightings.specs.Copies.{begun_at}
 use Rattle.hsr_sightings.specs.Read.{IsBegun, IsSameSighting, IsSightingOf, Rise}
 use Rattle.hsr_sightings.specs.Ring.{Ring}
-use Rattle.hsr_sightings.specs.declared.sighting.Sighting.{Sighting}
+use Rattle.hsr_sightings.specs.Fields.{Sighting}
 
 -- what is found before an index, as `AreSightings` of all copies, and of each point how many sightings began there
 pub record AreFound (ring : Ring) (copies : List CaughtFields) (i : ℕ) (all : List Sighting) (of_copy begun : List ℕ) : Type 0 where

@@ -1,4 +1,5 @@
 pub mod Frames
+pub mod Fields
 pub mod Ring
 pub mod Keys
 pub mod Copies

@@ -14,7 +14,7 @@ use Rattle.hsr_sightings.specs.Seen.{key_by}
 use Rattle.hsr_sightings.specs.Sightings.{first_seen, is_more, sighting}
 use Rattle.hsr_sightings.specs.declared.late.Crowd.{Crowd}
 use Rattle.hsr_sightings.specs.declared.overtaken.Overtaken.{Overtaken}
-use Rattle.hsr_sightings.specs.declared.sighting.Sighting.{Sighting}
+use Rattle.hsr_sightings.specs.Fields.{Sighting}
 
 -- ---- copies
 

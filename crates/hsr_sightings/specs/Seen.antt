@@ -4,7 +4,7 @@ use Rattle.hsr_frame_groups.specs.Frames.{CaughtFields}
 use Rattle.hsr_sightings.specs.Ring.{Ring, forget_time, way_of}
 use Rattle.hsr_sightings.specs.declared.sighting.Fate.{Fate}
 use Rattle.hsr_sightings.specs.declared.sighting.Fate.TheVariants.{Twice, Once, More, Open}
-use Rattle.hsr_sightings.specs.declared.sighting.Sighting.{Sighting}
+use Rattle.hsr_sightings.specs.Fields.{Sighting}
 
 -- a frame at a point, as one number: there are 64 points at most
 abbrev pub key_by : ℕ → ℕ → ℕ

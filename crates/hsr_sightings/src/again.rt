@@ -30,8 +30,8 @@ fn keys_of(alloc: Global, copies: &[Caught<'_>], firsts: &[u32]) -> Result<Vec<K
     for i in 0..copies.len() {
         let caught = &copies[i];
         keys.push(Keyed {
-            at: caught.at,
-            key: key_of(firsts[i], caught.direction),
+            at: caught.at(),
+            key: key_of(firsts[i], caught.direction()),
         })?;
     }
     Ok(keys)

@@ -10,17 +10,9 @@ ghost use Rattle.hsr_sightings.specs.Read.{AreRead, TellsEach};
 use crate::ring::FORGET_TIME;
 use hsr_frame::NoMemory;
 use hsr_frame_copies::says_same;
-use hsr_frame_groups::{Caught, FRAME_TIME};
+use hsr_frame_groups::{Caught, FRAME_TIME, key_of};
 use hsr_previous::{Keyed, previous_of};
 use std::alloc::Global;
-
-/// The source and the number of a copy, as one number.
-fn key_of(caught: &Caught<'_>) -> u64
-    ensures { result ≡ key_of caught.now }
-{
-    let [a, b, c, d, e, f] = caught.copy.src.octets();
-    u64::from_be_bytes([a, b, c, d, e, f, 0, 0]) + u64::from(caught.copy.seq)
-}
 
 /// Of each copy its moment, and its source and its number as one number.
 fn keys_of(alloc: Global, copies: &[Caught<'_>]) -> Result<Vec<Keyed>, NoMemory>
@@ -30,7 +22,7 @@ fn keys_of(alloc: Global, copies: &[Caught<'_>]) -> Result<Vec<Keyed>, NoMemory>
     for i in 0..copies.len() {
         let caught = &copies[i];
         keys.push(Keyed {
-            at: caught.at,
+            at: caught.at(),
             key: key_of(caught),
         })?;
     }
@@ -41,7 +33,8 @@ fn keys_of(alloc: Global, copies: &[Caught<'_>]) -> Result<Vec<Keyed>, NoMemory>
 fn differs(latest: &Caught<'_>, caught: &Caught<'_>) -> bool
     ensures { result ≡ says_other latest.now caught.now }
 {
-    caught.at.saturating_sub(latest.at) < FORGET_TIME && !says_same(&latest.copy, &caught.copy)
+    caught.at().saturating_sub(latest.at()) < FORGET_TIME
+        && !says_same(&latest.copy(), &caught.copy())
 }
 
 /// Whether the copy at an index begins a frame, and the latest copy of its source and number says something else, less than 400 ms

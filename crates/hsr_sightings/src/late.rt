@@ -7,7 +7,7 @@ ghost use Rattle.hsr_sightings.specs.Demand.{at_least, begun_with, needed_with, 
 ghost use Rattle.hsr_sightings.specs.Read.{AreCrowds, AreNeeded, AreSightings, HaveOwnNumbers, IsCrowd, TellsEach};
 ghost use Rattle.hsr_sightings.specs.Ring.{forget_time, is_at};
 ghost use Rattle.hsr_sightings.specs.declared.late.Begun as the_begun;
-ghost use Rattle.hsr_sightings.specs.declared.sighting.Sighting as the_sighting;
+ghost use Rattle.hsr_sightings.specs.Fields as the_sighting;
 
 use crate::ring::{FORGET_TIME, Ring};
 use crate::sighting::Sighting;
@@ -19,7 +19,7 @@ use std::alloc::Global;
 pub fn is_late(seen: &Sighting, caught: &Caught<'_>) -> bool
     ensures { result ≡ nat_le forget_time (caught.now.at - seen.now.at) }
 {
-    caught.at.saturating_sub(seen.at) >= FORGET_TIME
+    caught.at().saturating_sub(seen.at()) >= FORGET_TIME
 }
 
 /// Whether a copy comes so long after the first copy of its sighting, which is told by its number.
@@ -91,11 +91,11 @@ fn put_copy(demand: &mut Demand, seen: &Sighting, caught: &Caught<'_>, i: usize)
     ensures most { demand.new.most.items ≡ needed_with demand.old.begun.items demand.old.most.items seen.now caught.now.at i }
     ensures long { length demand.new.begun.items ≡ length demand.old.begun.items }
 {
-    if seen.first as usize == i {
-        put_one(&mut demand.begun, seen.point);
+    if seen.first() as usize == i {
+        put_one(&mut demand.begun, seen.point());
     } else if !is_late(seen, caught) {
-        let count = count_at(demand.begun.as_slice(), seen.point).saturating_sub(seen.order);
-        put_least(&mut demand.most, seen.point, count);
+        let count = count_at(demand.begun.as_slice(), seen.point()).saturating_sub(seen.order());
+        put_least(&mut demand.most, seen.point(), count);
     }
 }
 
@@ -197,7 +197,7 @@ fn put_begun(
         return Ok(());
     }
     let caught = &copies[i as usize];
-    let at = caught.at;
+    let at = caught.at();
     crowding.things.push(Begun { at, copy: i })?;
     crowding.from = recent_from(crowding.things.as_slice(), crowding.from, at);
     crowding.most = greater(crowding.most, crowding.things.as_slice(), crowding.from);
@@ -218,7 +218,7 @@ fn begins_at(
     ensures { (c : CaughtFields) → slice_get copies.now i ≡ Some c → result ≡ (is_at ring.now point c && begins_there ring.now (past_of copies.now i) c) }
 {
     let seen = &sightings[of_copy[i] as usize];
-    ring.point_of(&copies[i]) == point && seen.first as usize == i
+    ring.point_of(&copies[i]) == point && seen.first() as usize == i
 }
 
 /// The crowd of a point.

@@ -25,7 +25,7 @@ fn priority_of(caught: &Caught<'_>) -> u16
     ensures same { result ≡ priority_of caught.now }
     ensures small { result < 8 }
 {
-    caught.copy.vlan.unwrap_or(0) / 8192
+    caught.copy().vlan.unwrap_or(0) / 8192
 }
 
 /// A direction, a priority and a source, as one number.
@@ -33,8 +33,9 @@ fn key_of(caught: &Caught<'_>) -> u64
     requires { caught.now.direction < 320 }
     ensures { result ≡ beside_key caught.now }
 {
-    let [a, b, c, d, e, f] = caught.copy.src.octets();
-    let place = caught.direction as u64 * 8 + u64::from(priority_of(caught));
+    let copy = caught.copy();
+    let [a, b, c, d, e, f] = copy.src.octets();
+    let place = caught.direction() as u64 * 8 + u64::from(priority_of(caught));
     u64::from_be_bytes([a, b, c, d, e, f, 0, 0]) + place
 }
 
@@ -47,7 +48,7 @@ fn keys_of(alloc: Global, copies: &[Caught<'_>], firsts: &[u32]) -> Result<Vec<K
     for i in 0..copies.len() {
         let caught = &copies[i];
         keys.push(Keyed {
-            at: caught.at,
+            at: caught.at(),
             key: key_of(caught),
         })?;
     }
@@ -65,7 +66,8 @@ fn is_behind(number: u16, top: u16) -> bool
 fn is_passed(top: &Caught<'_>, caught: &Caught<'_>) -> bool
     ensures { result ≡ is_passed (Some top.now) caught.now }
 {
-    is_behind(caught.copy.seq, top.copy.seq) && caught.at.saturating_sub(top.at) < FORGET_TIME
+    is_behind(caught.copy().seq, top.copy().seq)
+        && caught.at().saturating_sub(top.at()) < FORGET_TIME
 }
 
 /// The same of the copy at an index, where the greatest so far is told by its index.
@@ -142,7 +144,7 @@ fn overtaken_in(copies: &[Caught<'_>], carried: u32, top: Option<u32>, i: u32) -
     if carried == 0 && is_passed(top, &copies[i as usize]) {
         Some(Overtaken {
             copy: i,
-            behind: top.copy.seq,
+            behind: top.copy().seq,
         })
     } else {
         None

@@ -36,13 +36,13 @@ impl Ring<'_> {
     pub fn point_of(&self, caught: &Caught<'_>) -> usize
         ensures { result ≡ point_of self.now caught.now }
     {
-        self.points.get(caught.direction).copied().unwrap_or(0)
+        self.points.get(caught.direction()).copied().unwrap_or(0)
     }
 
     /// The way of a copy.
     pub fn way_of(&self, caught: &Caught<'_>) -> u8
         ensures { result ≡ way_of self.now caught.now }
     {
-        self.ways.get(caught.direction).copied().unwrap_or(0)
+        self.ways.get(caught.direction()).copied().unwrap_or(0)
     }
 }

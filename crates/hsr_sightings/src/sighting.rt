@@ -1,37 +1,47 @@
 //! A frame as a point saw it, in the whole capture.
-ghost use Rattle.std.specs.Prelude.{◌≡◌, ◌+◌, ◌-◌, ◌<◌, ◌^◌, ◌++◌, ◌∷◌, [], length, min, slice_get, slice_index, slice_set, IfOk, OnOk, Some};
+ghost use Rattle.std.specs.Prelude.{◌≡◌, ◌+◌, ◌-◌, ◌<◌, ◌^◌, ◌++◌, ◌∷◌, [], if◌then◌else◌, List, length, min, None, slice_get, slice_index, slice_set, IfOk, OnOk, Some};
+ghost use Rattle.hsr_frame_groups.specs.Frames.{frame_time};
+ghost use Rattle.hsr_previous.specs.Previous.{ArePrevious};
+ghost use Rattle.hsr_previous.specs.declared.previous.Keyed.{Keyed};
 ghost use Rattle.hsr_sightings.specs.Copies.{carried_before};
 ghost use Rattle.hsr_sightings.specs.Finding.{AreFound, IsPreviousSighting};
 ghost use Rattle.hsr_sightings.specs.Read.{AreRead, AreSightingKeys, AreSightings, HasPlaces, TellsEach};
 ghost use Rattle.hsr_sightings.specs.Ring.{point_of};
 ghost use Rattle.hsr_sightings.specs.Seen.{begun, came_both, fate_of, first_of, is_edge, joined, key_by, skew_of, way_of_seen, with_copy};
-ghost use Rattle.hsr_sightings.specs.declared.sighting.Sighting.{Sighting};
+ghost use Rattle.hsr_sightings.specs.Fields.{Sighting};
 
 use crate::ring::{FORGET_TIME, Ring};
 use hsr_frame::NoMemory;
 use hsr_frame_groups::{Caught, FRAME_TIME};
 use hsr_previous::{Keyed, previous_of};
 use std::alloc::Global;
+use std::marker::Model;
 
 /// How many points there may be, as numbers.
 const POINTS: u64 = 64;
 
-/// A frame as a point saw it.
-#[derive(Clone, Copy, Debug, PartialEq, Eq)]
+/// A frame as a point saw it. It takes 48 octets of room: a moment that isn't there is 0 beside a mark.
+#[derive(Drop)]
 pub struct Sighting {
-    /// The index of its first copy there, and that copy's moment.
-    pub first: u32,
-    pub at: u64,
-    /// The index of the copy that began the frame.
-    pub frame: u32,
-    pub point: usize,
-    /// How many frames began at the point before it.
-    pub order: u64,
-    /// The moments of the first copies on each way.
-    pub by_0: Option<u64>,
-    pub by_1: Option<u64>,
-    /// Whether a direction carried it twice or more.
-    pub is_more: bool,
+    at: u64,
+    order: u64,
+    moment_0: u64,
+    moment_1: u64,
+    first: u32,
+    frame: u32,
+    point: u8,
+    has_0: bool,
+    has_1: bool,
+    is_more: bool,
+}
+
+impl Model for Sighting {
+    ghost use Rattle.std.specs.Prelude.{if◌then◌else◌, Some, None};
+    ghost use Rattle.hsr_sightings.specs.Fields.{Sighting};
+
+    ghost Value = { Sighting };
+
+    ghost view = { λ s. record { first = s.first; at = s.at; frame = s.frame; point = s.point; order = s.order; by_0 = if s.has_0 then Some s.moment_0 else None; by_1 = if s.has_1 then Some s.moment_1 else None; is_more = s.is_more } };
 }
 
 /// All sightings in the order of their first copies, and of each copy the index of its sighting.
@@ -64,41 +74,122 @@ fn first_of(known: Option<u64>, at: u64) -> Option<u64>
     }
 }
 
+/// A moment, if it is there.
+fn moment_if(is_there: bool, moment: u64) -> Option<u64>
+    ensures { result ≡ (if is_there then Some moment else None) }
+{
+    if is_there { Some(moment) } else { None }
+}
+
 impl Sighting {
+    /// The index of its first copy at its point.
+    pub fn first(&self) -> u32
+        ensures { result ≡ self.now.first }
+    {
+        self.first
+    }
+
+    /// The moment of its first copy at its point.
+    pub fn at(&self) -> u64
+        ensures { result ≡ self.now.at }
+    {
+        self.at
+    }
+
+    /// Its point.
+    pub fn point(&self) -> usize
+        ensures { result ≡ self.now.point }
+    {
+        usize::from(self.point)
+    }
+
+    /// How many frames began at its point before it.
+    pub fn order(&self) -> u64
+        ensures { result ≡ self.now.order }
+    {
+        self.order
+    }
+
+    /// The moment of its first copy on way 0.
+    pub fn by_0(&self) -> Option<u64>
+        ensures { result ≡ self.now.by_0 }
+    {
+        moment_if(self.has_0, self.moment_0)
+    }
+
+    /// The moment of its first copy on way 1.
+    pub fn by_1(&self) -> Option<u64>
+        ensures { result ≡ self.now.by_1 }
+    {
+        moment_if(self.has_1, self.moment_1)
+    }
+
+    /// The same.
+    pub fn copied(&self) -> Sighting
+        ensures { result ≡ self.now }
+    {
+        Sighting {
+            at: self.at,
+            order: self.order,
+            moment_0: self.moment_0,
+            moment_1: self.moment_1,
+            first: self.first,
+            frame: self.frame,
+            point: self.point,
+            has_0: self.has_0,
+            has_1: self.has_1,
+            is_more: self.is_more,
+        }
+    }
+
     /// Whether it came on both ways.
     pub fn came_both_ways(&self) -> bool
         ensures { result ≡ came_both self.now }
     {
-        self.by_0.is_some() && self.by_1.is_some()
+        self.has_0 && self.has_1
     }
 
     /// The way that it came by, the first of both.
     pub fn way(&self) -> u8
         ensures { result ≡ way_of_seen self.now }
     {
-        if self.by_0.is_some() { 0 } else { 1 }
+        if self.has_0 { 0 } else { 1 }
+    }
+
+    /// With the moments of the first copies on each way.
+    #[tactic(auto, using(crate::proofs::Moments::moment_same))]
+    fn with_moments(&self, by_0: Option<u64>, by_1: Option<u64>, is_more: bool) -> Sighting
+        ensures { result ≡ record self.now { by_0 = by_0; by_1 = by_1; is_more = is_more } }
+    {
+        Sighting {
+            at: self.at,
+            order: self.order,
+            moment_0: by_0.unwrap_or(0),
+            moment_1: by_1.unwrap_or(0),
+            first: self.first,
+            frame: self.frame,
+            point: self.point,
+            has_0: by_0.is_some(),
+            has_1: by_1.is_some(),
+            is_more,
+        }
     }
 
     /// With a copy that came one way.
-    fn with(self, way: u8, at: u64, is_again: bool) -> Sighting
-        ensures { result ≡ with_copy self way at is_again }
+    fn with(&self, way: u8, at: u64, is_again: bool) -> Sighting
+        ensures { result ≡ with_copy self.now way at is_again }
     {
         let by_0 = if way == 0 {
-            first_of(self.by_0, at)
+            first_of(self.by_0(), at)
         } else {
-            self.by_0
+            self.by_0()
         };
         let by_1 = if way == 1 {
-            first_of(self.by_1, at)
+            first_of(self.by_1(), at)
         } else {
-            self.by_1
+            self.by_1()
         };
-        Sighting {
-            by_0,
-            by_1,
-            is_more: self.is_more || is_again,
-            ..self
-        }
+        self.with_moments(by_0, by_1, self.is_more || is_again)
     }
 }
 
@@ -119,7 +210,7 @@ pub fn fate_of(ring: &Ring<'_>, seen: &Sighting) -> Fate
         Fate::More
     } else if seen.came_both_ways() {
         Fate::Twice
-    } else if is_at_edge(ring, seen.at) {
+    } else if is_at_edge(ring, seen.at()) {
         Fate::Open
     } else {
         Fate::Once
@@ -130,7 +221,7 @@ pub fn fate_of(ring: &Ring<'_>, seen: &Sighting) -> Fate
 pub fn skew_of(seen: &Sighting) -> Option<u64>
     ensures { result ≡ skew_of seen.now }
 {
-    match (seen.by_0, seen.by_1) {
+    match (seen.by_0(), seen.by_1()) {
         (Some(a), Some(b)) => Some(a.abs_diff(b)),
         _ => None,
     }
@@ -159,7 +250,7 @@ fn keys_of(
     for i in 0..copies.len() {
         let caught = &copies[i];
         keys.push(Keyed {
-            at: caught.at,
+            at: caught.at(),
             key: key_of(firsts[i], ring.point_of(caught)),
         })?;
     }
@@ -168,25 +259,28 @@ fn keys_of(
 
 /// A sighting that begins with a copy.
 fn begun(caught: &Caught<'_>, i: u32, frame: u32, point: usize, order: u64) -> Sighting
+    requires { point < 64 }
     ensures { result ≡ begun caught.now i frame point order }
 {
     Sighting {
-        first: i,
-        at: caught.at,
-        frame,
-        point,
+        at: caught.at(),
         order,
-        by_0: None,
-        by_1: None,
+        moment_0: 0,
+        moment_1: 0,
+        first: i,
+        frame,
+        point: point as u8,
+        has_0: false,
+        has_1: false,
         is_more: false,
     }
 }
 
 /// A sighting with a copy, by how often its direction carried its frame before.
-fn joined(ring: &Ring<'_>, caught: &Caught<'_>, carried: u32, seen: Sighting) -> Sighting
-    ensures { result ≡ joined ring.now caught.now carried seen }
+fn joined(ring: &Ring<'_>, caught: &Caught<'_>, carried: u32, seen: &Sighting) -> Sighting
+    ensures { result ≡ joined ring.now caught.now carried seen.now }
 {
-    seen.with(ring.way_of(caught), caught.at, carried > 0)
+    seen.with(ring.way_of(caught), caught.at(), carried > 0)
 }
 
 /// The sightings of the copies so far.
@@ -219,6 +313,7 @@ fn put_begun(
     carried: u32,
 ) -> Result<(), NoMemory>
     requires point { point_of ring.now caught.now < length found.old.begun.items }
+    requires place { point_of ring.now caught.now < 64 }
     requires few { length found.old.all.items < 2 ^ 32 }
     ensures all { OnOk result (found.new.all.items ≡ found.old.all.items
         ++ joined ring.now caught.now carried (begun caught.now i frame (point_of ring.now caught.now) (slice_index found.old.begun.items (point_of ring.now caught.now))) ∷ []) }
@@ -230,7 +325,7 @@ fn put_begun(
     let order = next_at(&mut found.begun, point);
     let number = found.all.len() as u32;
     let seen = begun(caught, i, frame, point, order);
-    found.all.push(joined(ring, caught, carried, seen))?;
+    found.all.push(joined(ring, caught, carried, &seen))?;
     found.of_copy.push(number)?;
     Ok(())
 }
@@ -250,8 +345,8 @@ fn put_joined(
     ensures counts { OnOk result (found.new.begun.items ≡ found.old.begun.items) }
 {
     let place = number as usize;
-    let seen = found.all[place];
-    found.all[place] = joined(ring, caught, carried, seen);
+    let seen = joined(ring, caught, carried, &found.all[place]);
+    found.all[place] = seen;
     found.of_copy.push(number)?;
     Ok(())
 }
@@ -284,6 +379,22 @@ fn put_copy(
     }
 }
 
+/// Of each copy the previous one of its frame at its point. The keys go here: they take a third of the room that is taken meanwhile.
+fn previous_seen(
+    alloc: Global,
+    ring: &Ring<'_>,
+    copies: &[Caught<'_>],
+    firsts: &[u32],
+) -> Result<Vec<Option<u32>>, NoMemory>
+    requires read { AreRead copies.now firsts.now }
+    requires places { HasPlaces ring.now }
+    ensures { IfOk result (λ previous. (keys : List Keyed) × AreSightingKeys ring.now copies.now firsts.now keys × ArePrevious frame_time keys previous.items) }
+{
+    let keys = keys_of(alloc, ring, copies, firsts)?;
+    let previous = previous_of(alloc, keys.as_slice(), FRAME_TIME)?;
+    Ok(previous)
+}
+
 /// Each frame at each point that saw it, by the frame and by how often its direction carried it before, of each copy.
 pub fn sightings_of(
     alloc: Global,
@@ -297,8 +408,7 @@ pub fn sightings_of(
     requires places { HasPlaces ring.now }
     ensures { IfOk result (λ found. AreSightings ring.now copies.now found.all.items found.of_copy.items) }
 {
-    let keys = keys_of(alloc, ring, copies, firsts)?;
-    let previous = previous_of(alloc, keys.as_slice(), FRAME_TIME)?;
+    let previous = previous_seen(alloc, ring, copies, firsts)?;
     let mut found = Found {
         all: Vec::new(alloc),
         of_copy: Vec::new(alloc),

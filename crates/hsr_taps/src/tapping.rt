@@ -11,7 +11,7 @@ use crate::points::{Point, points_of};
 use crate::tally::{Tally, is_at, looked_at, tallies_of};
 use hsr_capture_reader::{Interface, Packet};
 use hsr_frame::NoMemory;
-use hsr_frame_copies::{NoCopy, copy_of};
+use hsr_frame_copies::{NoCopy, copy_of, size_of};
 use hsr_frame_groups::Caught;
 use std::alloc::Global;
 
@@ -88,12 +88,13 @@ fn put_packet<'a>(
         return Ok(());
     };
     match copy_of(packet) {
-        Ok(copy) => sorted.copies.push(Caught {
-            at: packet.moment,
-            packet: packet.number,
-            direction: direction_of(packet.interface, taps, packet.way, copy.path),
-            copy,
-        })?,
+        Ok(copy) => sorted.copies.push(Caught::new(
+            packet.moment,
+            packet.number,
+            direction_of(packet.interface, taps, packet.way, copy.path),
+            packet.octets,
+            size_of(packet),
+        ))?,
         Err(what) => sorted.strays.push(Stray {
             at: packet.moment,
             packet: packet.number,
@@ -153,8 +154,9 @@ fn count_at(counts: &mut Vec<u64>, caught: &Caught<'_>)
     ensures counts { (lane : ℕ) (copies : List CaughtFields) → length copies < 2 ^ 63 → caught.now.copy.path % 2 ≡ lane → AreLaneCounts lane copies counts.old.items
         → AreLaneCounts lane (copies ++ caught.now ∷ []) counts.new.items }
 {
-    if caught.direction < counts.len() {
-        counts[caught.direction] = counts[caught.direction].saturating_add(1);
+    let direction = caught.direction();
+    if direction < counts.len() {
+        counts[direction] = counts[direction].saturating_add(1);
     }
 }
 
@@ -164,7 +166,7 @@ fn count_copy(counts: &mut Vec<u64>, lane: u8, caught: &Caught<'_>)
     ensures counts { (copies : List CaughtFields) → length copies < 2 ^ 63 → AreLaneCounts lane copies counts.old.items
         → AreLaneCounts lane (copies ++ caught.now ∷ []) counts.new.items }
 {
-    if caught.copy.path % 2 == lane {
+    if caught.copy().path % 2 == lane {
         count_at(counts, caught);
     }
 }

@@ -7,19 +7,17 @@ use Rattle.hsr_health.specs.declared.counts.Counts.{Counts}
 use Rattle.hsr_heard.specs.Hearing.{heard_at, those_of}
 use Rattle.hsr_health.specs.Numbering.{AreGroups, IsLedger, group_name, life_number, numbered_at}
 use Rattle.hsr_health.specs.Whole.{lanes_of, lives_of, unreadable_of}
-use Rattle.hsr_health.proofs.Measuring.{alike_on, of_sources_alike, short_filter_map, short_those}
+use Rattle.hsr_health.proofs.Measuring.{alike_on, of_sources_alike, short_those}
 use Rattle.hsr_heard.specs.Subjects.{AreAbouts}
 use Rattle.hsr_sightings.specs.Ring.{Ring}
 use Rattle.hsr_sightings.specs.Read.{AreSightings, TellsEach}
 use Rattle.hsr_taps.specs.Tallies.{is_at}
 use Rattle.hsr_health.proofs.known.known_of.Goals as goal
 
-pub ledger_of-requires : goal.ledger_of-requires
-ledger_of-requires c =
+pub life_runs-requires : goal.life_runs-requires
+life_runs-requires c =
     omega (
       arith,
-      ap length c.in_ok-said.ensures,
-      short_filter_map (life_number c.as_slice-of_copy.result.now) c.as_slice-3.result.now,
       ap length c.as_slice-3.ensures.value,
       ap length c.in_ok-heard.ensures.read,
       short_those (heard_at c.args.ring.now) c.args.copies.now 0 c.args.copies.now,
@@ -37,9 +35,9 @@ returns c =
     let lanes = is_at (lanes_of c.requires.seen.0) in
     let of_copy = c.as_slice-of_copy.ensures.value in
     let many : c.len-many.result ≡ length sources.macs.items = c.len-many.ensures ∙ sources.macs.ok.0 in
-    let numbered = c.in_ok-numbers.ensures.numbers lanes ring (subst (TellsEach (mark_of lanes ring) copies) (sym c.as_slice-marks.ensures.value) seen.marks)
-    ∙ ap (λ l. those_of (numbered_at l c.as_slice-of_source.result.now) copies) of_copy ∙ ap (λ l. those_of (numbered_at sources.of_copy.items l) copies) c.as_slice-of_source.ensures.value in
-    let said = c.in_ok-said.ensures ∙ ap (λ l. filter_map (life_number l) c.as_slice-3.result.now) of_copy
+    let placed = c.in_ok-placed.ensures lanes ring (subst (TellsEach (mark_of lanes ring) copies) (sym c.as_slice-marks.ensures.value) seen.marks) in
+    let numbered = ap (λ l. those_of (numbered_at l c.as_slice-of_source.result.now) copies) of_copy ∙ ap (λ l. those_of (numbered_at sources.of_copy.items l) copies) c.as_slice-of_source.ensures.value in
+    let said = ap (λ l. filter_map (life_number l) c.as_slice-3.result.now) of_copy
     ∙ ap (filter_map (life_number sources.of_copy.items)) c.as_slice-3.ensures.value in
     let sightings = subst (λ l. AreSightings ring copies l numbers) (sym c.as_slice-all.ensures.value) c.requires.seen.1.sightings in
     let none_at = λ (k : ℕ) (own : Counts) (here : slice_get c.in_ok-counts.counts.items k ≡ Some own).
@@ -70,7 +68,7 @@ returns c =
           read.2 (before.2 ∙ none.1) ∙ ap (λ l. capped (unreadable_of l c.as_slice-2.result.now k)) of_copy ∙ ap (λ l. capped (unreadable_of sources.of_copy.items l k)) c.as_slice-2.ensures.value;
       abouts = subst (λ (r : Ring). AreAbouts c.in_ok-heard.field-0.heard.items r.start r.end c.in_ok-abouts.abouts.all.items c.in_ok-abouts.abouts.silences.items) c.ring.view_is c.in_ok-abouts.ensures;
       ledger = subst (λ n. IsLedger (those_of (numbered_at sources.of_copy.items c.in_ok-groups.groups.items) copies) n c.in_ok-ledger.ledger) many
-          (subst (λ l. IsLedger l c.len-many.result c.in_ok-ledger.ledger) numbered c.in_ok-ledger.ensures);
+          (subst (λ l. IsLedger l c.len-many.result c.in_ok-ledger.ledger) numbered (c.in_ok-ledger.ensures _ placed));
       lives = subst (λ n. IsLedger (filter_map (life_number sources.of_copy.items) c.in_ok-heard.field-0.heard.items) n c.in_ok-lives.lives) many
-          (subst (λ l. IsLedger l c.len-many.result c.in_ok-lives.lives) said c.in_ok-lives.ensures);
+          (subst (λ l. IsLedger l c.len-many.result c.in_ok-lives.lives) said (c.in_ok-lives.ensures _ c.in_ok-said.ensures));
     }

@@ -10,7 +10,7 @@ pub key_of-requires : goal.key_of-requires
 key_of-requires c =
     let copies = c.args.copies.now in
     let small = c.requires.directions c.loop-i.i _ (slice_get_read copies _ c.loop-i.i c.index-copies-i.result refl (omega arith) c.index-copies-i.is) in
-    omega (arith, small, ap (λ x. x.direction) c.caught.view_is)
+    omega (arith, small, c.direction.ensures)
 
 pub loop-i-preserved : goal.loop-i-preserved
 loop-i-preserved c =

@@ -2,6 +2,8 @@ use Rattle.std.proofs.Common.{◌≡◌, ◌∙◌, ap, refl, sym}
 use Rattle.std.proofs.lemmas.Bool.{and_left, ne_eqb}
 use Rattle.std.proofs.lemmas.Option.{same_Some, slice_get_read}
 use Rattle.hsr_frame_groups.specs.Frames.{past_of}
+use Rattle.std.specs.Prelude.{nat_eq}
+use Rattle.hsr_sightings.specs.Fields.{Sighting}
 use Rattle.hsr_sightings.specs.Copies.{begins_there}
 use Rattle.hsr_sightings.specs.Ring.{is_at, point_of}
 use Rattle.hsr_sightings.proofs.Demanding.{begins_at_is, number_within}
@@ -16,7 +18,8 @@ returns-then-point_of-point c = λ x here.
     let own = slice_get_read copies _ c.args.i c.index-copies-i.result refl c.requires.below c.index-copies-i.is in
     let same : c.index-copies-i.result ≡ x = same_Some _ _ (sym own ∙ here) in
     let place : point_of c.args.ring.now x ≡ c.args.point = ap (point_of c.args.ring.now) (sym same) ∙ sym c.point_of.ensures ∙ c.if-point_of-point.true in
-    begins_at_is c.args.ring.now copies c.args.sightings.now c.args.of_copy.now c.args.i c.args.point x _ c.requires.sightings here place
+    let first = c.first.ensures ∙ ap (λ (s : Sighting). s.first) c.index-sightings-of_copy.is in
+    ap (λ n. nat_eq n c.args.i) first ∙ begins_at_is c.args.ring.now copies c.args.sightings.now c.args.of_copy.now c.args.i c.args.point x c.index-sightings-of_copy.result c.requires.sightings here place
 
 pub returns-else-point_of-point : goal.returns-else-point_of-point
 returns-else-point_of-point c = λ x here.

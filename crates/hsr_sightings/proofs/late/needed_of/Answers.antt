@@ -18,7 +18,7 @@ loop-i-preserved c =
     let x = c.index-copies-i.result in
     let old = c.loop-i.demand in
     let here = slice_get_read copies _ i x refl (omega arith) c.index-copies-i.is in
-    let at_k = slice_get-get_or all (slice_index of_copy i) _ (number_within ring copies all of_copy i c.requires.sightings c.loop-i-test.true) in
+    let at_k = slice_get_read all _ (slice_index of_copy i) c.index-sightings-number.result refl (number_within ring copies all of_copy i c.requires.sightings c.loop-i-test.true) c.index-sightings-number.is in
     record {
       demand = subst (λ l. IsDemand ring copies (i + 1) l c.put_copy.new.demand.most.items) (sym c.put_copy.ensures.begun)
           (subst (IsDemand ring copies (i + 1) _) (sym c.put_copy.ensures.most)

@@ -7,7 +7,7 @@ pub returns : goal.returns
 returns c = λ packets few is.
     let p = c.args.packet.now in
     let kind = c.copy_of-kind.result in
-    let kind_is = c.copy_of-kind.ensures in
+    let kind_is = c.copy_of-kind.ensures.found in
     same_tally _ _ (length_more packets p c.args.self.packets _ (ap (λ t. t.packets) is) (omega (arith, few, ap (λ t. t.packets) is)))
     (kind_more is_untagged packets p c.args.self.untagged _ _ kind few (ap (λ t. t.untagged) is) c.more-untagged.ensures c.is_untagged.ensures kind_is)
     (kind_more is_malformed packets p c.args.self.malformed _ _ kind few (ap (λ t. t.malformed) is) c.more-malformed.ensures c.is_malformed.ensures kind_is)
