@@ -77,8 +77,9 @@ fn marks_by(
 {
     let mut marks = vec![in alloc; false; many]?;
     for i in 0..seen.len() {
-        let source = source_of(of_copy, seen[i].first());
-        put_mark(&mut marks, source, came_by(&seen[i], way));
+        let own = &seen[i];
+        let source = source_of(of_copy, own.first());
+        put_mark(&mut marks, source, came_by(own, way));
     }
     Ok(marks)
 }

@@ -213,9 +213,10 @@ fn besides_of(
     let mut all = no_besides(alloc, points)?;
     let other = other_way(way);
     for i in 0..sightings.len() {
-        let had = is_judged(ring, copies, &sightings[i], other);
-        let came_too = came_by(&sightings[i], way);
-        put_beside(&mut all, sightings[i].point, had, came_too);
+        let seen = &sightings[i];
+        let had = is_judged(ring, copies, seen, other);
+        let came_too = came_by(seen, way);
+        put_beside(&mut all, seen.point(), had, came_too);
     }
     Ok(all)
 }
@@ -328,7 +329,7 @@ fn begun_of(alloc: Global, sightings: &[Sighting], points: usize) -> Result<Vec<
 {
     let mut begun = vec![in alloc; 0u64; points]?;
     for i in 0..sightings.len() {
-        count_point(&mut begun, sightings[i].point);
+        count_point(&mut begun, sightings[i].point());
     }
     Ok(begun)
 }

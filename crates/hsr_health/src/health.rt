@@ -12,7 +12,7 @@ use crate::directions::{DirectionNumbers, PointNumbers};
 use crate::findings::{Findings, findings_of};
 use crate::kinds::{MalformedKind, UntaggedKind, VlanKind};
 use crate::known::Known;
-use crate::ledger::{GroupNumbers, Ledger, life_numbers};
+use crate::ledger::{GroupNumbers, Ledger};
 use crate::load::Load;
 use crate::measured::{Measured, greatest};
 use crate::reason::Reason;

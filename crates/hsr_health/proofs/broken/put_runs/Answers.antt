@@ -1,5 +1,5 @@
 use Rattle.std.proofs.Common.{arith, refl}
-use Rattle.std.proofs.lemmas.Option.{slice_get-get_or}
+use Rattle.std.proofs.lemmas.Option.{slice_get_read}
 use Rattle.hsr_health.specs.Broken.{kept}
 use Rattle.hsr_health.proofs.Breaking.{all_running, first_running, kept_same, running_more}
 use Rattle.hsr_health.proofs.broken.put_runs.Goals as goal
@@ -14,7 +14,7 @@ loop-i-preserved c = λ numbers before sources are runs.
     let all = c.args.sightings.now in
     let i = c.loop-i.i in
     running_more c.args.ring.now c.args.copies.now c.args.macs.now c.args.of_copy.now numbers c.args.point before all i _ (kept c.loop-i.spans.items c.loop-i.going)
-    (kept c.put_seen.new.spans.items c.put_seen.new.going) (slice_get-get_or all i _ (omega arith)) sources are (c.loop-i.invariant numbers before sources are runs) c.in_ok-put_seen.ensures
+    (kept c.put_seen.new.spans.items c.put_seen.new.going) (slice_get_read all _ i c.index-sightings-i.result refl (omega arith) c.index-sightings-i.is) sources are (c.loop-i.invariant numbers before sources are runs) c.in_ok-put_seen.ensures
 
 pub returns : goal.returns
 returns c = λ numbers before sources are runs.

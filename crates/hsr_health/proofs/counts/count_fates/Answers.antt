@@ -1,6 +1,6 @@
 use Rattle.std.proofs.Common.{◌∙◌, arith, refl, subst}
 use Rattle.std.proofs.lemmas.List.{take_all}
-use Rattle.std.proofs.lemmas.Option.{slice_get-get_or}
+use Rattle.std.proofs.lemmas.Option.{slice_get_read}
 use Rattle.hsr_health.specs.Counted.{AreFated}
 use Rattle.hsr_health.proofs.Fating.{fates_step, no_fates_yet}
 use Rattle.hsr_health.proofs.counts.count_fates.Goals as goal
@@ -15,7 +15,7 @@ loop-i-preserved c =
     record {
       long = c.count_sighting.ensures.long ∙ c.loop-i.invariant.long;
       counts = λ macs numbers sources are none.
-          fates_step c.args.ring.now c.args.copies.now macs c.args.of_copy.now numbers c.args.counts.now.items c.loop-i.counts.items _ all i _ (slice_get-get_or all i _ (omega arith)) (omega arith) sources are
+          fates_step c.args.ring.now c.args.copies.now macs c.args.of_copy.now numbers c.args.counts.now.items c.loop-i.counts.items _ all i _ (slice_get_read all _ i c.index-sightings-i.result refl (omega arith) c.index-sightings-i.is) (omega arith) sources are
           c.count_sighting.ensures.counts (c.loop-i.invariant.counts macs numbers sources are none);
     }
 

@@ -1,7 +1,7 @@
-use Rattle.std.proofs.Common.{◌∙◌, arith, subst}
+use Rattle.std.proofs.Common.{◌∙◌, ap, arith, refl, subst}
 use Rattle.std.proofs.lemmas.List.{take_all}
-use Rattle.std.proofs.lemmas.Option.{slice_get-get_or}
-use Rattle.hsr_health.specs.Counted.{AreBegun}
+use Rattle.std.proofs.lemmas.Option.{slice_get_read}
+use Rattle.hsr_health.specs.Counted.{AreBegun, changed, one_more}
 use Rattle.hsr_health.proofs.Pointing.{begun_step}
 use Rattle.hsr_health.proofs.directions.begun_of.Goals as goal
 
@@ -11,7 +11,8 @@ loop-i-preserved c =
     let i = c.loop-i.i in
     record {
       long = c.count_point.ensures.long ∙ c.loop-i.invariant.long;
-      begun = begun_step all i _ c.loop-i.begun.items _ (slice_get-get_or all i _ (omega arith)) (omega arith) c.count_point.ensures.begun c.loop-i.invariant.begun;
+      begun = begun_step all i _ c.loop-i.begun.items _ (slice_get_read all _ i c.index-sightings-i.result refl (omega arith) c.index-sightings-i.is) (omega arith)
+          (c.count_point.ensures.begun ∙ ap (λ n. changed one_more n c.loop-i.begun.items) c.point.ensures) c.loop-i.invariant.begun;
     }
 
 pub returns-clause-begun : goal.returns-clause-begun

@@ -1,4 +1,4 @@
-use Rattle.std.proofs.Common.{◌++◌, arith, option_to_list, refl, reverse, subst, sym}
+use Rattle.std.proofs.Common.{[], ◌++◌, arith, option_to_list, refl, reverse, subst, sym}
 use Rattle.std.proofs.lemmas.List.{length-reverse}
 use Rattle.std.proofs.lemmas.Option.{slice_get_read}
 use Rattle.hsr_frame_groups.specs.Frames.{past_of}
@@ -8,6 +8,9 @@ use Rattle.hsr_health.proofs.Gapping.{number_is, one_more_at_most, reverse_more}
 use Rattle.hsr_heard.proofs.Telling.{those_end, those_more}
 use Rattle.hsr_number_runs.specs.Counting.{AreRunsOf, AreSoFar}
 use Rattle.hsr_health.proofs.ledger.frame_runs.Goals as goal
+
+pub loop-i-init : goal.loop-i-init
+loop-i-init c = ([], c.in_ok-so_far.ensures, omega arith, λ is_by_lane ring told. refl)
 
 pub put_number-requires : goal.put_number-requires
 put_number-requires c =
