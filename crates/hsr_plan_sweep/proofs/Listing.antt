@@ -24,10 +24,10 @@ use Rattle.hsr_plan_sweep.specs.declared.playing.Played.{Played}
 use Rattle.hsr_plan_sweep.specs.declared.sendings.Sending.{Sending}
 
 skip : {X : Type 0} (p : X → Bool) (x : X) (xs : List X) → p x ≡ false → find p (x ∷ xs) ≡ find p xs
-skip p x xs no = rw no refl
+skip p x xs fails = rw fails refl
 
 hit : {X : Type 0} (p : X → Bool) (x : X) (xs : List X) → p x ≡ true → find p (x ∷ xs) ≡ Some x
-hit p x xs yes = rw yes refl
+hit p x xs passes = rw passes refl
 
 pub part_step : (seen : List Case) (part : Part) (cases : List Case) (i : ℕ) (d : Case) → i < length cases
     → seen ++ in_part part i (drop i cases) ≡ (seen ++ one_if (is_in_part part i) (get_or cases i d)) ++ in_part part (i + 1) (drop (i + 1) cases)
@@ -41,10 +41,10 @@ turn_step now name last es i d h = ap (last_turn now name last) (drop_more es i 
 
 module _ (a : Audience) (stream : Option ℕ) (at : ℕ) (ks : List ℕ) (i d : ℕ) where
   pub need_skip : i < length ks → needs a stream at (get_or ks i d) ≡ false → first_in_need a stream at (drop i ks) ≡ first_in_need a stream at (drop (i + 1) ks)
-  need_skip h no = ap (first_in_need a stream at) (drop_more ks i d h) ∙ skip (needs a stream at) (get_or ks i d) (drop (i + 1) ks) no
+  need_skip h fails = ap (first_in_need a stream at) (drop_more ks i d h) ∙ skip (needs a stream at) (get_or ks i d) (drop (i + 1) ks) fails
 
   pub need_hit : i < length ks → needs a stream at (get_or ks i d) ≡ true → first_in_need a stream at (drop i ks) ≡ Some (get_or ks i d)
-  need_hit h yes = ap (first_in_need a stream at) (drop_more ks i d h) ∙ hit (needs a stream at) (get_or ks i d) (drop (i + 1) ks) yes
+  need_hit h passes = ap (first_in_need a stream at) (drop_more ks i d h) ∙ hit (needs a stream at) (get_or ks i d) (drop (i + 1) ks) passes
 
 pub sendings_step : (seen : List Sending) (streams : List ℕ) (os : List Order) (i : ℕ) (d : Order) → i < length os
     → seen ++ sendings streams (drop i os)

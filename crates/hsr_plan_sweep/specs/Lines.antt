@@ -96,9 +96,12 @@ point_text w (piece.Node k) = node_name w.nodes k
 abbrev pub next_point : Words → Piece → List ℕ
 next_point w off = codes ", " ++ point_text w off
 
+unfoldable pub some_points : Words → Piece → List Piece → List ℕ
+some_points w first others = codes "single points of failure: " ++ point_text w first ++ flat_map (next_point w) others ++ codes "\n"
+
 abbrev pub points_text : Words → List Piece → List ℕ
 points_text w [] = codes "no single point of failure\n"
-points_text w (first ∷ others) = codes "single points of failure: " ++ point_text w first ++ flat_map (next_point w) others ++ codes "\n"
+points_text w (first ∷ others) = some_points w first others
 
 -- ---- all
 

@@ -1,7 +1,7 @@
 //! The lines of a sweep.
 ghost use Rattle.std.specs.Prelude.{◌≡◌, ◌++◌, codes, slice_get, IfOk, OnOk};
 ghost use Rattle.std.specs.List.{flat_map};
-ghost use Rattle.hsr_plan_sweep.specs.Lines.{all_text, case_text, dashed, dashed_if, enough_text, first_text, found_text, last_text, limited_text, limits_text, next_point, over_text, play_line, play_text, point_text, points_text, sends_text, sweep_text, tables_text};
+ghost use Rattle.hsr_plan_sweep.specs.Lines.{all_text, case_text, dashed, dashed_if, enough_text, first_text, found_text, last_text, limited_text, limits_text, next_point, over_text, play_line, play_text, point_text, points_text, sends_text, some_points, sweep_text, tables_text};
 
 use crate::asked::Asked;
 use crate::cases::Case;
@@ -221,18 +221,30 @@ fn put_others(text: &mut Vec<u8>, words: &Words<'_>, offs: &[Off]) -> Result<(),
     Ok(())
 }
 
+/// Puts the line of these single points of failure last.
+#[tactic(auto, unfolding(crate::specs::Lines::some_points))]
+fn put_some_points(
+    text: &mut Vec<u8>,
+    words: &Words<'_>,
+    first: Off,
+    others: &[Off],
+) -> Result<(), NoMemory>
+    ensures { OnOk result (text.new.items ≡ text.old.items
+        ++ some_points words.now first others.now) }
+{
+    put(text, "single points of failure: ")?;
+    put_point(text, words, first)?;
+    put_others(text, words, others)?;
+    put(text, "\n")
+}
+
 /// Puts the line of these single points of failure last, or that there is none.
 fn put_points(text: &mut Vec<u8>, words: &Words<'_>, offs: &[Off]) -> Result<(), NoMemory>
     ensures { OnOk result (text.new.items ≡ text.old.items ++ points_text words.now offs.now) }
 {
     match offs.split_first() {
         None => put(text, "no single point of failure\n"),
-        Some((first, others)) => {
-            put(text, "single points of failure: ")?;
-            put_point(text, words, *first)?;
-            put_others(text, words, others)?;
-            put(text, "\n")
-        }
+        Some((first, others)) => put_some_points(text, words, *first, others),
     }
 }
 
