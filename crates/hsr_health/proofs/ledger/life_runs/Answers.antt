@@ -1,4 +1,4 @@
-use Rattle.std.proofs.Common.{◌++◌, ◌∙◌, ap, arith, length, option_to_list, refl, reverse, subst, sym, take}
+use Rattle.std.proofs.Common.{◌<◌, ◌^◌, ◌++◌, ◌∙◌, ap, arith, length, option_to_list, refl, reverse, subst, sym, take}
 use Rattle.std.specs.Prelude.{filter_map}
 use Rattle.std.proofs.lemmas.List.{length-reverse, length-take, take_all}
 use Rattle.hsr_health.specs.Numbering.{life_number}
@@ -12,8 +12,7 @@ pub put_number-requires : goal.put_number-requires
 put_number-requires c =
     let heard = c.args.heard.now in
     let i = c.loop-one.one-index in
-    let before = filter_map (life_number c.args.of_copy.now) (take i heard) in
-    (
+    let before = filter_map (life_number c.args.of_copy.now) (take i heard) in (
       reverse before,
       c.loop-one.invariant,
       omega (arith, length-reverse before, short_filter_map (life_number c.args.of_copy.now) (take i heard), length-take i heard, c.requires),
@@ -27,8 +26,8 @@ loop-one-preserved c =
     let before = filter_map tell (take i heard) in
     let number = c.life_number.result in
     let more = found_more tell heard i c.one-item.result before (before ++ option_to_list number) (omega arith) refl
-        (ap (λ o. before ++ option_to_list o) (c.life_number.ensures ∙ ap tell c.one-item.is)) in
-    let short = omega (arith, length-reverse before, short_filter_map tell (take i heard), length-take i heard, c.requires) in
+    (ap (λ o. before ++ option_to_list o) (c.life_number.ensures ∙ ap tell c.one-item.is)) in
+    let short : length (reverse before) < 2 ^ 31 = omega (arith, length-reverse before, short_filter_map tell (take i heard), length-take i heard, c.requires) in
     subst (AreSoFar _) (sym (reverse_more before number) ∙ ap reverse more) (c.in_ok-put_number.ensures (reverse before) short c.loop-one.invariant)
 
 pub returns : goal.returns
