@@ -48,13 +48,13 @@ listed plan = at_spot spot.Top (wired plan.outline.network)
 
 -- where a plan's occasions take place, among its nodes and links
 abbrev pub setting : Plan → Wired → List Publication → Setting
-setting plan wired publications = record {
+setting plan wired ps = record {
   moves = plan.outline.moves;
   capacity = plan.outline.capacity;
   nodes = wired.nodes;
   links = wired.topology.links;
   streams = plan.streams;
-  publications = publications;
+  publications = ps;
   epoch = plan.outline.epoch;
 }
 
