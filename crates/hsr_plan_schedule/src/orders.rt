@@ -168,15 +168,7 @@ fn payload_of(
         Some(publication) => {
             let name = name_of(stream, turn.index);
             let size = stream.framing.size;
-            payload(
-                alloc,
-                setting.epoch,
-                publication,
-                stream,
-                size,
-                name,
-                turn,
-            )
+            payload(alloc, setting.epoch, publication, stream, size, name, turn)
         }
         None => Ok(Vec::new(alloc)),
     }
