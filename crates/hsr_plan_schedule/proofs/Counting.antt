@@ -1,5 +1,5 @@
 -- Frames that are counted before they are listed.
-use Rattle.std.proofs.Common.{◌≡◌, ℕ, suc, ◌+◌, ◌-◌, ◌*◌, ◌<◌, ◌≤◌, ◌∙◌, false, true, min, nat_le, length, get_or, slice_get, drop, List, [], Some, None, refl, ap, sym, ⊎_elim, arith, length-append}
+use Rattle.std.proofs.Common.{◌≡◌, ℕ, suc, ◌+◌, ◌-◌, ◌<◌, ◌≤◌, ◌∙◌, false, true, min, nat_le, length, get_or, slice_get, drop, List, [], Some, None, refl, ap, sym, ⊎_elim, arith, length-append}
 use Rattle.std.proofs.lemmas.List.{drop_all}
 use Rattle.std.proofs.lemmas.Bool.Decides.{leb_tells, nat_tests}
 use Rattle.hsr_plan_text.specs.Plan.{Timing}

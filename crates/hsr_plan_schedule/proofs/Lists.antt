@@ -26,7 +26,7 @@ use Rattle.hsr_plan_schedule.specs.Publishing.{fits, publications_from, publishe
 use Rattle.hsr_plan_schedule.specs.declared.occasion.Occasion.{Occasion}
 use Rattle.hsr_plan_schedule.specs.declared.publication.Publication.{Publication}
 use Rattle.hsr_plan_schedule.specs.declared.publishing.Counted.{Counted}
-use Rattle.hsr_plan_schedule.specs.declared.publishing.Published.{Published}
+use Rattle.hsr_plan_schedule.specs.declared.publishing.NextPublication.{NextPublication}
 use Rattle.hsr_plan_schedule.specs.declared.occasion.Sender.{Sender}
 
 -- ---- senders
@@ -97,7 +97,7 @@ fits_fails p s = passes_fails (fits p s)
 
 -- ---- what streams publish
 
-pub publications_step : (until : Option ℕ) (seen : List Publication) (counted : Counted) (ss : List Stream) (i : ℕ) (d : Stream) (p : Published) → i < length ss
+pub publications_step : (until : Option ℕ) (seen : List Publication) (counted : Counted) (ss : List Stream) (i : ℕ) (d : Stream) (p : NextPublication) → i < length ss
     → at_spot (spot.Stream (length seen)) (published until seen counted (get_or ss i d)) ≡ Ok p
     → publications_from until seen counted (drop i ss) ≡ publications_from until (seen ++ p.publication ∷ []) p.counted (drop (i + 1) ss)
 publications_step until seen counted ss i d p h e =

@@ -51,13 +51,13 @@ listed plan = at_spot spot.Top (wired plan.outline.network)
 
 -- where a plan's occasions take place, among its nodes and links; there is room for all that may be under way, or as much as there can be
 abbrev pub setting : Plan → Wired → List Publication → Setting
-setting plan wired publications = record {
+setting plan wired ps = record {
   moves = plan.outline.moves;
   capacity = unwrap_or plan.outline.capacity 4096;
   nodes = wired.nodes;
   links = wired.topology.links;
   streams = plan.streams;
-  publications = publications;
+  publications = ps;
   epoch = plan.outline.epoch;
 }
 

@@ -140,16 +140,16 @@ name_if None = []
 name_if (Some name) = name
 
 -- which frame of a stream is sent
-abbrev pub turn : Sent → Turn
-turn sent = record { index = sent.index; state = sent.state; count = sent.count }
+abbrev pub turn_of : Sent → Turn
+turn_of sent = record { index = sent.index; state = sent.state; count = sent.count }
 
-abbrev pub payload_if : Setting → Stream → Option Publication → Sent → List ℕ
-payload_if g stream None sent = []
-payload_if g stream (Some p) sent = payload g.epoch p stream stream.framing.size (name_if (slice_get stream.from sent.index)) (turn sent)
+abbrev pub payload_if : Setting → Stream → Option Publication → Turn → List ℕ
+payload_if g stream None turn = []
+payload_if g stream (Some p) turn = payload g.epoch p stream stream.framing.size (name_if (slice_get stream.from turn.index)) turn
 
 abbrev pub named_send : Setting → Stream → Sent → Order
 named_send g stream sent = Step (step.Send sent.sender.node sent.sender.from sent.dst stream.framing.tag (type_of stream.framing.kind)
-    (payload_if g stream (slice_get g.publications sent.stream) sent))
+    (payload_if g stream (slice_get g.publications sent.stream) (turn_of sent)))
 
 -- a frame is from the stream of that number
 abbrev pub from_stream : ℕ → Told → Told

@@ -16,11 +16,15 @@ use Rattle.hsr_plan_schedule.specs.declared.publication.Turn.{Turn}
 abbrev pub publisher : Publication → ℕ → List ℕ → Publisher
 publisher p j name = record { device = name; appid = p.first + j; control_block = p.control_block; data_set = p.data_set; id = p.id }
 
+-- a start by its number; 0 where there is none
+abbrev pub start_at : Timing → ℕ → ℕ
+start_at timing state = unwrap_or (slice_get timing.starts state) 0
+
 -- the state is there since its start, which the epoch comes before
 abbrev pub goose_frame : ℕ → Publication → Timing → Turn → GooseFrame
 goose_frame epoch p timing turn = record {
   live = p.live;
-  since = epoch * 1000000 + unwrap_or (slice_get timing.starts turn.state) 0;
+  since = epoch * 1000000 + start_at timing turn.state;
   state = turn.state;
   count = turn.count;
 }

@@ -1,5 +1,5 @@
 -- By what receivers know the streams of a plan.
-use Rattle.std.specs.Prelude.{ℕ, zero, suc, ◌+◌, ◌-◌, ◌*◌, ◌/◌, ◌^◌, ◌==◌, ◌&&◌, ◌||◌, not, min, nat_lt, nat_le, Bool, ⊤, List, [], ◌∷◌, ◌++◌, codes, length, Option, Some, None, unwrap_or, Result, Ok, Err, if◌then◌else◌}
+use Rattle.std.specs.Prelude.{ℕ, zero, suc, ◌+◌, ◌-◌, ◌*◌, ◌/◌, ◌^◌, ◌==◌, ◌&&◌, ◌||◌, not, min, nat_lt, nat_le, Bool, ⊤, List, [], ◌∷◌, ◌++◌, codes, length, Option, Some, None, unwrap_or, Result, Ok, if◌then◌else◌}
 use Rattle.std.specs.List.{list_any}
 use Rattle.std.specs.Fmt.{decimal}
 use Rattle.hsr_toml.specs.Fallible.{◌>>=◌}
@@ -17,17 +17,13 @@ use Rattle.hsr_plan_text.specs.declared.plan.Pace.TheVariants.{Gaps, Samples}
 use Rattle.hsr_plan_network.specs.Checks.{each_passes, unless_held}
 use Rattle.hsr_plan_schedule.specs.Moments.{earlier, most_sent, next_gap}
 use Rattle.hsr_plan_schedule.specs.Naming.{count_of, none, stream_name, with_more}
-use Rattle.hsr_plan_schedule.specs.Payloads.{payload}
+use Rattle.hsr_plan_schedule.specs.Payloads.{payload, start_at}
 use Rattle.hsr_plan_schedule.specs.declared.naming.Counts.{Counts}
 use Rattle.hsr_plan_schedule.specs.declared.publication.Publication.{Publication}
 use Rattle.hsr_plan_schedule.specs.declared.publishing.Counted.{Counted}
-use Rattle.hsr_plan_schedule.specs.declared.publishing.Published.{Published}
+use Rattle.hsr_plan_schedule.specs.declared.publishing.NextPublication.{NextPublication}
 
 -- ---- how long a frame of GOOSE is to live
-
-abbrev pub first_start : List ℕ → ℕ
-first_start [] = 0
-first_start (start ∷ more) = start
 
 -- behind a frame at a moment, with this gap before it: the longest gap before one of n more frames, which come before the end
 unfoldable pub grown : ℕ → ℕ → ℕ → Pace → ℕ → ℕ
@@ -39,7 +35,7 @@ grown (suc n) at gap pace until = if nat_lt (at + next_gap pace gap) until then 
 abbrev pub longest_gap : ℕ → Timing → Pace → ℕ
 longest_gap until timing (Gaps every grow most) = if nat_le grow 1 then min every most
     else (if nat_lt most (2 ^ 40) then most
-    else grown (most_sent timing.count - 2) (first_start timing.starts + every) every (Gaps every grow most) until)
+    else grown (most_sent timing.count - 2) (start_at timing 0 + every) every (Gaps every grow most) until)
 longest_gap until timing (Samples rate) = 0
 
 -- timeAllowedtoLive: twice the longest gap, in milliseconds, rounded up
@@ -122,7 +118,7 @@ fits p s name = fits_in s.framing (shortest p s name)
 unfoldable pub may_publish : List Publication → Publication → Stream → Result ⊤ What
 may_publish earlier p s = unless_held (is_own earlier (limit s.framing.naming.appid s.framing.kind) p) AppidTaken >>= λ _. each_passes (fits p s) s.from
 
-abbrev pub published : Option ℕ → List Publication → Counted → Stream → Result Published What
+abbrev pub published : Option ℕ → List Publication → Counted → Stream → Result NextPublication What
 published until earlier counted s = may_publish earlier (publication until counted s) s
     >>= λ _. Ok (record { publication = publication until counted s; counted = counted_with s counted })
 

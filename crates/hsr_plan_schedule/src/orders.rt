@@ -1,6 +1,6 @@
 //! The orders of a scenario that tell what happens in a plan.
 ghost use Rattle.std.specs.Prelude.{◌≡◌, ◌++◌, slice_get, slice_set, IfOk, OnOk};
-ghost use Rattle.hsr_plan_schedule.specs.Orders.{change, changed, changes, clocked, comes, downs, drain, drained, ends_off, flag, from_stream, happens, hear, hear_on, is_down, is_to_speak, live, name_if, named_send, payload_if, send_if, sending, speak, speak_of, start, tell_occasion, tell_all, told_of, turn, type_of};
+ghost use Rattle.hsr_plan_schedule.specs.Orders.{change, changed, changes, clocked, comes, downs, drain, drained, ends_off, flag, from_stream, happens, hear, hear_on, is_down, is_to_speak, live, name_if, named_send, payload_if, send_if, sending, speak, speak_of, start, tell_occasion, tell_all, told_of, type_of};
 
 use crate::hearing::{Heard, interlink_to, macs_behind};
 use crate::occasion::{Happening, Occasion, Sender, Sent};
@@ -153,32 +153,22 @@ fn name_of(stream: &Stream, index: usize) -> &[u8]
     }
 }
 
-/// Which frame of a stream is sent.
-fn turn(sent: Sent) -> Turn
-    ensures { result ≡ turn sent }
-{
-    Turn {
-        index: sent.index,
-        state: sent.state,
-        count: sent.count,
-    }
-}
-
-/// The payload of a frame of a stream.
+/// The payload of a frame of the stream of that number.
 fn payload_of(
     alloc: Global,
     setting: &Setting<'_>,
     stream: &Stream,
-    sent: Sent,
+    number: usize,
+    turn: Turn,
 ) -> Result<Vec<u8>, NoMemory>
     ensures { IfOk result (λ v. v.items ≡ payload_if setting.now stream.now
-        (slice_get setting.now.publications sent.stream) sent) }
+        (slice_get setting.now.publications number) turn) }
 {
-    match setting.publications.get(sent.stream) {
+    match setting.publications.get(number) {
         Some(publication) => {
-            let name = name_of(stream, sent.index);
+            let name = name_of(stream, turn.index);
             let size = stream.framing.size;
-            payload(alloc, setting.epoch, publication, stream, size, name, turn(sent))
+            payload(alloc, setting.epoch, publication, stream, size, name, turn)
         }
         None => Ok(Vec::new(alloc)),
     }
@@ -193,12 +183,25 @@ fn named_send(
 ) -> Result<Order, NoMemory>
     ensures { IfOk result (λ o. o ≡ named_send setting.now stream.now sent) }
 {
-    let payload = payload_of(alloc, setting, stream, sent)?;
+    let Sent {
+        stream: number,
+        index,
+        sender,
+        dst,
+        state,
+        count,
+    } = sent;
+    let turn = Turn {
+        index,
+        state,
+        count,
+    };
+    let payload = payload_of(alloc, setting, stream, number, turn)?;
     let framing = &stream.framing;
     Ok(Order::Step(Step::Send {
-        node: sent.sender.node,
-        from: sent.sender.from,
-        dst: sent.dst,
+        node: sender.node,
+        from: sender.from,
+        dst,
         vlan: framing.tag,
         kind: type_of(framing.kind),
         payload: Octets::new(payload),

@@ -1,7 +1,7 @@
 //! The payload of a frame of a stream.
-ghost use Rattle.std.specs.Prelude.{◌≡◌, ◌≤◌, ◌<◌, ◌^◌, ◌+◌, ◌*◌, IfOk, IfSome, option_map, slice_get, unwrap_or};
+ghost use Rattle.std.specs.Prelude.{◌≡◌, ◌≤◌, ◌<◌, ◌^◌, ◌+◌, ◌*◌, IfOk, IfSome, option_map};
 ghost use Rattle.hsr_plan_payload.specs.Payload.{goose_payload, sampled_payload};
-ghost use Rattle.hsr_plan_schedule.specs.Payloads.{goose_frame, payload, publisher, rate_of, sampled_frame};
+ghost use Rattle.hsr_plan_schedule.specs.Payloads.{goose_frame, payload, publisher, rate_of, sampled_frame, start_at};
 
 use crate::publication::{Publication, Turn};
 use hsr_frame::NoMemory;
@@ -30,8 +30,8 @@ fn near(number: u64) -> Result<usize, NoMemory>
 }
 
 /// The start of that number; 0 where there is none.
-fn start_at(timing: &Timing, state: usize) -> u64
-    ensures { result ≡ unwrap_or (slice_get timing.now.starts state) 0 }
+pub(crate) fn start_at(timing: &Timing, state: usize) -> u64
+    ensures { result ≡ start_at timing.now state }
 {
     match timing.starts.as_slice().get(state) {
         Some(start) => *start,

@@ -1,23 +1,24 @@
 //! By what receivers know the streams of a plan.
-ghost use Rattle.std.specs.Prelude.{◌≡◌, ◌+◌, ◌++◌, [], decimal, codes, nat_le, not, length, unwrap_or, IfOk};
+ghost use Rattle.std.specs.Prelude.{◌≡◌, ◌+◌, ◌++◌, ◌-◌, [], codes, nat_le, not, length, unwrap_or, IfOk};
+ghost use Rattle.std.specs.Fmt.{decimal};
 ghost use Rattle.std.specs.List.{list_any};
 ghost use Rattle.hsr_plan_text.specs.Fallible.{Gives, GivesAt, at_spot};
 ghost use Rattle.hsr_plan_text.specs.declared.fault.Spot.TheVariants as spot;
 ghost use Rattle.hsr_plan_text.specs.declared.fault.Refusal.TheVariants.{AppidTaken as IsTaken};
 ghost use Rattle.hsr_plan_text.specs.declared.fault.What.TheVariants.{NoMemory as NoRoom};
 ghost use Rattle.hsr_plan_network.specs.Checks.{each_passes, unless_held};
+ghost use Rattle.hsr_plan_schedule.specs.Moments.{most_sent};
+ghost use Rattle.hsr_plan_schedule.specs.Payloads.{start_at};
 ghost use Rattle.hsr_plan_schedule.specs.Naming.{count_of, none, stream_name, with_more};
-ghost use Rattle.hsr_plan_schedule.specs.Publishing.{appids_of, block_word, counted_with, first_start, fits, fits_in, grown, is_enough, is_own, limit, live, longest_gap, may_publish, meets, publication, publications, publications_from, published, shortest, usual_appid, usual_limit};
+ghost use Rattle.hsr_plan_schedule.specs.Publishing.{appids_of, block_word, counted_with, fits, fits_in, grown, is_enough, is_own, limit, live, longest_gap, may_publish, meets, publication, publications, publications_from, published, shortest, usual_appid, usual_limit};
 
 use crate::naming::{Counts, added, count_of, stream_name, with_more};
 use crate::occasions::at_spot;
-use crate::payloads::payload;
+use crate::payloads::{payload, start_at};
 use crate::publication::{Publication, Turn};
 use crate::sends::{BEHIND, earlier, most_sent, next_gap};
 use hsr_frame::NoMemory;
-use hsr_plan_text::{
-    Framing, Kind, Pace, PlanFault, Refusal, Spot, Stream, Timing, What, Word,
-};
+use hsr_plan_text::{Framing, Kind, Pace, PlanFault, Refusal, Spot, Stream, Timing, What, Word};
 use hsr_text::{put, put_number};
 use std::alloc::Global;
 
@@ -36,22 +37,12 @@ pub(crate) struct Counted {
 
 /// What a stream publishes, and what is counted with it.
 #[derive(Debug, Drop)]
-struct Published {
+struct NextPublication {
     publication: Publication,
     counted: Counted,
 }
 
 // ---- how long a frame of GOOSE is to live
-
-/// The first of these starts; 0 where there is none.
-fn first_start(starts: &[u64]) -> u64
-    ensures { result ≡ first_start starts.now }
-{
-    match starts.first() {
-        Some(start) => *start,
-        None => 0,
-    }
-}
 
 /// The longest gap before one of `more` frames, behind a frame at a moment with this gap before it.
 #[tactic(auto, using(crate::proofs::Growing::over, crate::proofs::Growing::on, crate::proofs::Growing::stop))]
@@ -71,10 +62,10 @@ fn grown(more: usize, at: u64, gap: u64, pace: Pace, until: u64) -> u64
 /// The longest gap of a pace without a bound, from the first start on.
 #[tactic(auto, using(crate::proofs::Growing::past))]
 fn grown_from(timing: &Timing, every: u64, pace: Pace, until: u64) -> u64
-    ensures { result ≡ grown (most_sent timing.now.count - 2) (first_start timing.now.starts + every) every pace until }
+    ensures { result ≡ grown (most_sent timing.now.count - 2) (start_at timing.now 0 + every) every pace until }
 {
     let more = (most_sent(timing.count) as usize).saturating_sub(2);
-    match first_start(timing.starts.as_slice()).checked_add(every) {
+    match start_at(timing, 0).checked_add(every) {
         Some(at) => grown(more, at, every, pace, until),
         None => every,
     }
@@ -209,7 +200,7 @@ fn appids_of(kind: Kind, senders: u64) -> u64
 
 /// What a stream publishes, before which so much is counted.
 #[tactic(auto, unfolding(crate::specs::Publishing::publication))]
-fn publication(
+fn publication_of(
     alloc: Global,
     until: Option<u64>,
     counted: Counted,
@@ -291,12 +282,7 @@ fn fits_in(framing: &Framing, least: usize) -> Result<(), What>
 
 /// Refuses the first frame of a name, if its shortest payload doesn't fit.
 #[tactic(auto, unfolding(crate::specs::Publishing::fits))]
-fn fits(
-    alloc: Global,
-    publication: &Publication,
-    stream: &Stream,
-    name: &Word,
-) -> Result<(), What>
+fn fits(alloc: Global, publication: &Publication, stream: &Stream, name: &Word) -> Result<(), What>
     ensures { Gives (λ u. u) result (fits publication.now stream.now name.now) }
 {
     let least = shortest(alloc, publication, stream, name.as_bytes())?;
@@ -369,13 +355,13 @@ fn published(
     earlier: &[Publication],
     counted: Counted,
     stream: &Stream,
-) -> Result<Published, What>
+) -> Result<NextPublication, What>
     ensures { Gives (λ p. p) result (published until earlier.now counted stream.now) }
 {
-    let publication = publication(alloc, until, counted, stream)?;
+    let publication = publication_of(alloc, until, counted, stream)?;
     may_publish(alloc, earlier, &publication, stream)?;
     let counted = counted_with(stream, counted)?;
-    Ok(Published {
+    Ok(NextPublication {
         publication,
         counted,
     })
@@ -389,7 +375,7 @@ fn published_at(
     earlier: &[Publication],
     counted: Counted,
     stream: &Stream,
-) -> Result<Published, PlanFault>
+) -> Result<NextPublication, PlanFault>
     ensures { GivesAt (λ p. p) result (at_spot (spot.Stream (length earlier.now))
         (published until earlier.now counted stream.now)) }
 {
@@ -426,7 +412,7 @@ pub(crate) fn publications(
     for stream in streams.iter() {
         match published_at(alloc, until, publications.as_slice(), counted, stream) {
             Ok(published) => {
-                let Published {
+                let NextPublication {
                     publication,
                     counted: more,
                 } = published;

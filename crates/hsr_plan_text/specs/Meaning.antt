@@ -1,5 +1,5 @@
 -- What a document says as a plan, or its first fault.
-use Rattle.std.specs.Prelude.{ℕ, ◌*◌, ◌^◌, nat_le, List, [], ◌∷◌, codes, length, Option, Some, None, Result, Ok, Err, ok_or, if◌then◌else◌}
+use Rattle.std.specs.Prelude.{ℕ, ◌*◌, ◌^◌, List, [], ◌∷◌, codes, Option, Some, None, Result, Ok, Err, ok_or}
 use Rattle.std.specs.Str.{bytes_eq}
 use Rattle.toml.specs.Data.{Data, Members}
 use Rattle.hsr_frame.specs.Cases.{first_of}
@@ -11,7 +11,7 @@ use Rattle.hsr_plan_text.specs.Fallible.{at_spot, each}
 use Rattle.hsr_plan_text.specs.Network.{network_in}
 use Rattle.hsr_plan_text.specs.Streams.{stream_in}
 use Rattle.hsr_plan_text.specs.Events.{event_in}
-use Rattle.hsr_plan_text.specs.Plan.{Network, Outline, Plan, Stream}
+use Rattle.hsr_plan_text.specs.Plan.{Outline, Plan, Stream}
 use Rattle.hsr_toml.specs.Tables.{at_key, between, needed, optional, perhaps, tables, text, word}
 use Rattle.hsr_plan_text.specs.Fault.{faults}
 use Rattle.hsr_plan_text.specs.Tables.{hop, moment, only}
