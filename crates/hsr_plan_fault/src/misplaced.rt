@@ -10,13 +10,16 @@ pub(crate) struct Misplaced {
 }
 
 /// The keys that stand at the top of a plan, and are no tables.
-const TOP_KEYS: [Key; 6] = [
+const TOP_KEYS: [Key; 9] = [
     Key::Title,
     Key::Capacity,
     Key::Life,
     Key::Until,
     Key::Moves,
     Key::Hop,
+    Key::Rate,
+    Key::Residence,
+    Key::Switching,
 ];
 
 /// The key of the top that a word is.

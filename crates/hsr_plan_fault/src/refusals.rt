@@ -44,6 +44,8 @@ fn idle(key: Key) -> &'static str {
     match key {
         Key::Hop =>
             "this changes nothing: copies move by hops where moves is \"hops\", and only there",
+        Key::Rate | Key::Residence | Key::Switching =>
+            "this changes nothing: copies move by wires where moves is \"wire\", and only there",
         Key::On => "this changes nothing: the node isn't off then; it goes off by an earlier event",
         _ => "this changes nothing: the link isn't cut then; it is cut by an earlier event",
     }

@@ -16,7 +16,7 @@ use hsr_link::Dir;
 use hsr_node::Place;
 use hsr_plan_network::Node;
 use hsr_plan_schedule::Meaning;
-use hsr_plan_text::{Moves, Outline, Word};
+use hsr_plan_text::{Moves, Outline, Pace, Switching, Wire, Word};
 use hsr_scenario::Order;
 use hsr_table_demand::most_of;
 use hsr_text::{put, put_hex, put_number, put_octets};
@@ -587,6 +587,42 @@ fn put_title(text: &mut Vec<u8>, title: &Option<String>) -> Result<(), NoMemory>
     }
 }
 
+/// Puts when nodes judge what comes by wires last.
+fn put_switching(text: &mut Vec<u8>, switching: Switching) -> Result<(), NoMemory>
+    ensures { OnOk result (text.new.items ≡ text.old.items ++ switching_text switching) }
+{
+    match switching {
+        Switching::Store => put(text, "store"),
+        Switching::Cut => put(text, "cut"),
+    }
+}
+
+/// Puts wires last.
+#[tactic(auto, unfolding(crate::specs::Spelled::wire_text))]
+fn put_wire(text: &mut Vec<u8>, wire: Wire) -> Result<(), NoMemory>
+    ensures { OnOk result (text.new.items ≡ text.old.items ++ wire_text wire) }
+{
+    put(text, "wire ")?;
+    put_number(text, wire.rate)?;
+    put(text, " Mbit/s, ")?;
+    put_number(text, wire.residence)?;
+    put(text, " us, ")?;
+    put_switching(text, wire.switching)
+}
+
+/// Puts how long copies take last.
+fn put_pace(text: &mut Vec<u8>, pace: Pace) -> Result<(), NoMemory>
+    ensures { OnOk result (text.new.items ≡ text.old.items ++ pace_text pace) }
+{
+    match pace {
+        Pace::Hop(us) => {
+            put(text, "hop_us = ")?;
+            put_number(text, us)
+        }
+        Pace::Wire(wire) => put_wire(text, wire),
+    }
+}
+
 /// Puts how copies move last.
 fn put_moves(text: &mut Vec<u8>, moves: Moves) -> Result<(), NoMemory>
     ensures { OnOk result (text.new.items ≡ text.old.items ++ moves_text moves) }
@@ -594,10 +630,7 @@ fn put_moves(text: &mut Vec<u8>, moves: Moves) -> Result<(), NoMemory>
     match moves {
         Moves::EachSendDrains => put(text, "each send drains"),
         Moves::EachMomentDrains => put(text, "each moment drains"),
-        Moves::Hop(us) => {
-            put(text, "hop_us = ")?;
-            put_number(text, us)
-        }
+        Moves::Paced(pace) => put_pace(text, pace),
     }
 }
 

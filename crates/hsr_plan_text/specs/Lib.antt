@@ -6,4 +6,5 @@ pub mod Words
 pub mod Network
 pub mod Streams
 pub mod Events
+pub mod Moves
 pub mod Meaning

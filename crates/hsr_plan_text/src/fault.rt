@@ -26,6 +26,11 @@ pub enum Key {
     Moves,
     /// Written `hop_us`.
     Hop,
+    /// Written `rate_mbps`.
+    Rate,
+    /// Written `residence_us`.
+    Residence,
+    Switching,
     Stream,
     Event,
     From,
@@ -96,6 +101,9 @@ impl Key {
             Key::Until => "until_us",
             Key::Moves => "moves",
             Key::Hop => "hop_us",
+            Key::Rate => "rate_mbps",
+            Key::Residence => "residence_us",
+            Key::Switching => "switching",
             Key::Stream => "stream",
             Key::Event => "event",
             Key::From => "from",

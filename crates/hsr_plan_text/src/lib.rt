@@ -9,11 +9,13 @@
 //! - `network`: what the keys of a plan say of its nodes
 //! - `streams`: the streams of a plan
 //! - `events`: the events of a plan
+//! - `moving`: how the copies of a plan move
 //! - `reading`: how a text is read as a plan
 #![tactic(auto)]
 
 mod events;
 mod fault;
+mod moving;
 mod network;
 mod plan;
 mod reading;
@@ -25,8 +27,8 @@ mod words;
 pub use fault::{Key, PlanFault, Refusal, Spot, What};
 pub use hsr_toml::TEXT_LIMIT;
 pub use plan::{
-    Addressed, Behind, Deed, Event, Framing, InMode, Kind, LinkEnd, Moves, Network, Outline, Plan,
-    Ring, Stream, Target, Timing,
+    Addressed, Behind, Deed, Event, Framing, InMode, Kind, LinkEnd, Moves, Network, Outline,
+    Pace, Plan, Ring, Stream, Switching, Target, Timing, Wire,
 };
 pub use reading::read;
 pub use word::Word;
