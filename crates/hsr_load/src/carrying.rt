@@ -8,7 +8,6 @@ ghost use Rattle.hsr_load.specs.Carried.{channel_of, channels, is_carried, momen
 ghost use Rattle.hsr_wire.specs.Octets.{wire_octets};
 
 use crate::transit::Transit;
-
 use hsr_finished_run::Closed;
 use hsr_frame::NoMemory;
 use hsr_link::{Dir, Fate, Row};

@@ -2,7 +2,9 @@
 ghost use Rattle.std.specs.Prelude.{◌≡◌, fold, slice_get, None, is_some};
 ghost use Rattle.hsr_plan_hops.specs.Flights.{are_free, arrival_if, arrival_of, arrival_on, arrives_at, arrives_by, channels_of, end_at, free_if, head_at, is_cut_through, is_free, is_free_by, is_sooner, is_to_come, is_way_free, leads_on, next_of, sooner, sooner_on, way_by};
 
-use crate::flights::{Arrival, Channel, Channels, Flight, dir_from, first_waiting, free_behind, later, time_on};
+use crate::flights::{
+    Arrival, Channel, Channels, Flight, dir_from, first_waiting, free_behind, later, time_on,
+};
 use crate::turns::receiver;
 use hsr_link::Dir;
 use hsr_plan_text::{Pace, Switching, Wire};
@@ -14,6 +16,7 @@ use std::marker::Model;
 pub(crate) const HEAD_OCTETS: u64 = 22;
 
 /// What a node looks at: the links, the moment, whether something that is told was done at it, the channels and the world.
+#[derive(Drop)]
 pub(crate) struct Sight<'a, const C: usize> {
     pub(crate) topology: &'a Topology,
     pub(crate) now: u64,
@@ -192,7 +195,10 @@ impl<'a, const C: usize> Sight<'a, C> {
 fn head_at(wire: Wire, flight: Flight) -> u64
     ensures { result ≡ head_at wire flight }
 {
-    later(later(flight.begins, time_on(wire, HEAD_OCTETS)), wire.residence)
+    later(
+        later(flight.begins, time_on(wire, HEAD_OCTETS)),
+        wire.residence,
+    )
 }
 
 /// When all of a copy was there, and its node kept it for its time.
@@ -217,12 +223,6 @@ fn sooner(one: Option<Arrival>, other: Option<Arrival>) -> Option<Arrival>
     match (one, other) {
         (None, _) => other,
         (Some(_), None) => one,
-        (Some(first), Some(second)) => {
-            if is_sooner(second, first) {
-                other
-            } else {
-                one
-            }
-        }
+        (Some(first), Some(second)) => { if is_sooner(second, first) { other } else { one } }
     }
 }

@@ -196,7 +196,7 @@ pub(crate) fn ends_at(pace: Pace, begins: u64, octets: &[u8]) -> u64
 
 // ---- channels behind a step
 
-/// What puts need: the moment, and how many copies were put before.
+/// How copies move, the moment, and how many copies were put before.
 #[derive(Clone, Copy)]
 pub(crate) struct Instant {
     pub(crate) pace: Pace,
@@ -205,14 +205,7 @@ pub(crate) struct Instant {
 }
 
 /// The copy of a row that a channel, free from a moment on, has to carry from now on.
-fn flight_of(
-    instant: Instant,
-    link: usize,
-    dir: Dir,
-    number: usize,
-    free: u64,
-    row: &Row,
-) -> Flight
+fn flight_of(instant: Instant, link: usize, dir: Dir, number: usize, free: u64, row: &Row) -> Flight
     ensures { result ≡ flight_of instant.pace instant.now instant.turn link dir number free row.now }
 {
     let begins = begins_at(instant.pace, instant.now, free);

@@ -70,7 +70,11 @@ fn ordered<const C: usize>(alloc: Global, told: &Meaning, pace: Pace) -> Result<
 }
 
 /// What is told, with orders that move copies by hops or wires.
-fn moved_at_pace<const C: usize>(alloc: Global, told: Meaning, pace: Pace) -> Result<Meaning, Unmoved>
+fn moved_at_pace<const C: usize>(
+    alloc: Global,
+    told: Meaning,
+    pace: Pace,
+) -> Result<Meaning, Unmoved>
     requires entries { IsTableSize C }
     ensures ok { IfOk result (λ m. Moved C (Paced pace) told m) }
     ensures err { IfErr result (IsUnmovedAtPace C pace told) }

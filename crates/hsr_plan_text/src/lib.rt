@@ -27,8 +27,8 @@ mod words;
 pub use fault::{Key, PlanFault, Refusal, Spot, What};
 pub use hsr_toml::TEXT_LIMIT;
 pub use plan::{
-    Addressed, Behind, Deed, Event, Framing, InMode, Kind, LinkEnd, Moves, Network, Outline,
-    Pace, Plan, Ring, Stream, Switching, Target, Timing, Wire,
+    Addressed, Behind, Deed, Event, Framing, InMode, Kind, LinkEnd, Moves, Network, Outline, Pace,
+    Plan, Ring, Stream, Switching, Target, Timing, Wire,
 };
 pub use reading::read;
 pub use word::Word;

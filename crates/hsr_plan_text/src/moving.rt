@@ -50,14 +50,10 @@ fn without_hop(table: &Table, moves: Moves) -> Result<Moves, What>
     match (value(table, Key::Hop), moves) {
         (None, _) => Ok(moves),
         // Two ways to say one thing: which of them holds isn't guessed.
-        (Some(_), Moves::Paced(Pace::Hop(_))) => {
-            Err(What::Refused(Refusal::Together(Key::Hop)))
-        }
+        (Some(_), Moves::Paced(Pace::Hop(_))) => { Err(What::Refused(Refusal::Together(Key::Hop))) }
         // It would say nothing, and whoever wrote it thinks that copies move by hops.
-        (
-            Some(_),
-            Moves::EachSendDrains | Moves::EachMomentDrains | Moves::Paced(Pace::Wire(_)),
-        ) => Err(What::Refused(Refusal::Idle(Key::Hop))),
+        (Some(_), Moves::EachSendDrains | Moves::EachMomentDrains | Moves::Paced(Pace::Wire(_))) =>
+            Err(What::Refused(Refusal::Idle(Key::Hop))),
     }
 }
 
