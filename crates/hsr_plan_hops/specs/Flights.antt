@@ -7,7 +7,7 @@
 --     next_of      the copy that comes to its end next
 --     is_on_time   a step may stand at a moment, by the copy that comes to its end next
 --     AreOnTime    so it is with all orders
-use Rattle.std.specs.Prelude.{ℕ, ◌+◌, ◌-◌, ◌^◌, ◌==◌, ◌≡◌, max, min, nat_le, nat_lt, not, Bool, true, false, ◌&&◌, ◌||◌, List, [], ◌∷◌, ◌++◌, fold, length, map, Option, Some, None, is_some, slice_get, slice_index_or, slice_set, if◌then◌else◌, Ok}
+use Rattle.std.specs.Prelude.{ℕ, ◌+◌, ◌-◌, ◌^◌, ◌==◌, ◌≡◌, max, min, nat_le, nat_lt, not, Bool, true, false, ◌&&◌, ◌||◌, List, [], ◌∷◌, ◌++◌, fold, length, replicate, Option, Some, None, is_some, slice_get, slice_index_or, slice_set, if◌then◌else◌, Ok}
 use Rattle.hsr_topology.specs.Links.{link_from}
 use Rattle.hsr_topology.specs.declared.end.End.{End}
 use Rattle.hsr_link.specs.Rows.{is_queued, is_same_dir}
@@ -65,7 +65,7 @@ pub record Channels : Type 0 where
 
 -- nothing was put yet
 abbrev pub no_channels : List (List End) → Channels
-no_channels links = record { forth = map (λ link. no_channel) links; back = map (λ link. no_channel) links }
+no_channels links = record { forth = replicate (length links) no_channel; back = replicate (length links) no_channel }
 
 abbrev pub channels_of : Dir → Channels → List Channel
 channels_of Forth cs = cs.forth

@@ -1,5 +1,5 @@
 //! When copies come to their ends, and which of them is next.
-ghost use Rattle.std.specs.Prelude.{◌≡◌, fold, slice_get, None, is_some};
+ghost use Rattle.std.specs.Prelude.{◌≡◌, fold, option_map, slice_get, None};
 ghost use Rattle.hsr_plan_hops.specs.Flights.{are_free, arrival_if, arrival_of, arrival_on, arrives_at, arrives_by, channels_of, end_at, free_if, head_at, is_cut_through, is_free, is_free_by, is_sooner, is_to_come, is_way_free, leads_on, next_of, sooner, sooner_on, way_by};
 
 use crate::flights::{

@@ -2,9 +2,9 @@
 //!
 //! Copies go over a channel, a direction of a link, in the order in which they were put: a queue says which of them is next. Channels
 //! are looked at one after another, and copies that wait behind others aren't.
-ghost use Rattle.std.specs.Prelude.{◌≡◌, drop, slice_get, if◌then◌else◌, OnOk};
+ghost use Rattle.std.specs.Prelude.{◌≡◌, drop, replicate, slice_get, IfOk, OnOk};
 ghost use Rattle.hsr_topology.specs.Links.{link_from};
-ghost use Rattle.hsr_plan_hops.specs.Flights.{begins_at, carrying, channels_behind, dir_from, ends_at, flight_of, free_behind, is_cut_off, is_on_way, kept, kept_at, kept_in, later, on_way, put_at, put_by, put_if, put_in, put_on, rows_at, time_on, turn_behind};
+ghost use Rattle.hsr_plan_hops.specs.Flights.{begins_at, carrying, channels_behind, dir_from, ends_at, flight_of, free_behind, is_cut_off, is_on_way, kept, kept_at, kept_in, later, no_channel, no_channels, on_way, put_at, put_by, put_if, put_in, put_on, rows_at, time_on, turn_behind};
 
 use hsr_frame::NoMemory;
 use hsr_link::{Dir, Fate, Row};
@@ -294,12 +294,12 @@ pub(crate) fn dir_from(first: bool) -> Dir
     if first { Dir::Forth } else { Dir::Back }
 }
 
-/// As many channels as links, without copies.
-fn no_channels(alloc: Global, links: &[[End; 2]]) -> Result<Vec<Channel>, NoMemory>
-    ensures { IfOk result (λ list. list.items ≡ map (λ link. no_channel) links.now) }
+/// So many channels, without copies.
+fn empty(alloc: Global, count: usize) -> Result<Vec<Channel>, NoMemory>
+    ensures { IfOk result (λ list. list.items ≡ replicate count no_channel) }
 {
     let mut list = Vec::new(alloc);
-    for _link in links.iter() {
+    for _place in 0..count {
         list.push(Channel {
             waiting: VecDeque::new(alloc),
             last: None,
@@ -314,8 +314,8 @@ impl Channels {
         ensures { IfOk result (λ cs. cs ≡ no_channels links.now) }
     {
         Ok(Channels {
-            forth: no_channels(alloc, links)?,
-            back: no_channels(alloc, links)?,
+            forth: empty(alloc, links.len())?,
+            back: empty(alloc, links.len())?,
         })
     }
 
