@@ -8,7 +8,7 @@ ghost use Rattle.std.specs.Fmt.{decimal};
 ghost use Rattle.std.specs.List.{flat_map};
 ghost use Rattle.hex.specs.Hex.{encode_upper};
 ghost use Rattle.hsr_frame.specs.Grammar.{pair};
-ghost use Rattle.hsr_plan_scenario.specs.Spelled.{about_text, at_link, at_node, at_port, clock_text, comma, counts_text, digits_text, dir_text, does_text, frame_text, from_text, front_text, letter_or, link_line, link_lines, links_text, listed, mac_text, mode_text, moves_text, name_of, name_text, node_line, nodes_text, octets_text, order_line, order_lines, order_text, place_text, port_text, ring_place_text, role_text, scenario_text, sends_text, sizes_text, station_text, stations_text, step_text, stream_text, summary_text, title_text, vlan_text};
+ghost use Rattle.hsr_plan_scenario.specs.Spelled.{about_text, at_link, at_node, at_port, clock_text, comma, counts_text, digits_text, dir_text, does_text, frame_text, from_text, front_text, letter_or, link_line, link_lines, links_text, listed, mac_text, mode_text, moves_text, name_of, name_text, node_line, nodes_text, octets_text, order_line, order_lines, order_text, pace_text, place_text, port_text, ring_place_text, role_text, scenario_text, sends_text, sizes_text, station_text, stations_text, step_text, stream_text, summary_text, switching_text, title_text, vlan_text, wire_text};
 
 use crate::sends::{next_stream, send_moments, sends_behind};
 use hsr_frame::{About, Mac, Mode, NoMemory};
