@@ -9,7 +9,7 @@ use Rattle.hsr_topology.specs.declared.end.End.{End}
 use Rattle.hsr_world_steps.specs.declared.step.Step.TheVariants.{Put, Take}
 use Rattle.hsr_world_steps.specs.declared.step.Step as steps
 use Rattle.hsr_world_laws.specs.World.{World}
-use Rattle.hsr_plan_text.specs.declared.plan.Pace.{Pace}
+use Rattle.hsr_plan_text.specs.declared.plan.Transfer.{Transfer}
 use Rattle.hsr_plan_hops.specs.Beginning.{IsNext, IsSettled, Stage, next_copy}
 use Rattle.hsr_plan_hops.specs.Flights.{is_at_end}
 use Rattle.hsr_plan_hops.specs.Telling.{PutsFirst}
@@ -44,9 +44,9 @@ same_dir Back = refl
 at_end : (now : ℕ) (a : Arrival) → a.at ≡ now → is_at_end now a.link a.dir (Some a) ≡ true
 at_end now a just = rw (eq-eqb a.link a.link refl, same_dir a.dir, eq-eqb a.at now just) refl
 
-takes : (capacity : ℕ) (pace : Pace) (links : List (List End)) (s : Stage) (a : Arrival) → IsSettled capacity s.world s.due → next_copy pace links s ≡ Some a → a.at ≡ s.moment
-    → s.begun ≡ false → IsNext capacity pace links s (Take a.link a.dir) s.told
-takes capacity pace links s a settled next just first = record {
+takes : (capacity : ℕ) (transfer : Transfer) (links : List (List End)) (s : Stage) (a : Arrival) → IsSettled capacity s.world s.due → next_copy transfer links s ≡ Some a → a.at ≡ s.moment
+    → s.begun ≡ false → IsNext capacity transfer links s (Take a.link a.dir) s.told
+takes capacity transfer links s a settled next just first = record {
   does = refl;
   stands = stands_free capacity s.world s.due (Take a.link a.dir) refl settled;
   puts_first = puts_first capacity s.world s.due (Take a.link a.dir) settled;
@@ -55,8 +55,8 @@ takes capacity pace links s a settled next just first = record {
   called_for = tt;
 }
 
-pub takes_at : (capacity : ℕ) (pace : Pace) (links : List (List End)) (s : Stage) (a : Arrival) (more : List Order) → IsSettled capacity s.world s.due
-    → next_copy pace links s ≡ Some a → a.at ≡ s.moment → s.begun ≡ false → more ≡ s.told → IsNext capacity pace links s (Take a.link a.dir) more
-takes_at capacity pace links s a more settled next just first same =
-    let P : List Order → Type 0 = IsNext capacity pace links s (Take a.link a.dir) in
-    subst P (sym same) (takes capacity pace links s a settled next just first)
+pub takes_at : (capacity : ℕ) (transfer : Transfer) (links : List (List End)) (s : Stage) (a : Arrival) (more : List Order) → IsSettled capacity s.world s.due
+    → next_copy transfer links s ≡ Some a → a.at ≡ s.moment → s.begun ≡ false → more ≡ s.told → IsNext capacity transfer links s (Take a.link a.dir) more
+takes_at capacity transfer links s a more settled next just first same =
+    let P : List Order → Type 0 = IsNext capacity transfer links s (Take a.link a.dir) in
+    subst P (sym same) (takes capacity transfer links s a settled next just first)

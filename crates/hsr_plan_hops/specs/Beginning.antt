@@ -10,7 +10,7 @@ use Rattle.hsr_scenario.specs.declared.steps.Order.TheVariants.{Step}
 use Rattle.hsr_world_steps.specs.declared.step.Step.TheVariants.{Clock, Put}
 use Rattle.hsr_world_steps.specs.declared.step.Step as steps
 use Rattle.hsr_plan_schedule.specs.Meaning.{Meaning}
-use Rattle.hsr_plan_text.specs.declared.plan.Pace.{Pace}
+use Rattle.hsr_plan_text.specs.declared.plan.Transfer.{Transfer}
 use Rattle.hsr_world_laws.specs.World.{World, tried}
 use Rattle.hsr_plan_hops.specs.Flights.{Channels, Sight, channels_behind, is_on_time, next_of, no_channels, turn_behind}
 use Rattle.hsr_plan_hops.specs.Moving.{world_of}
@@ -40,8 +40,8 @@ abbrev pub seen_at : List (List End) → Stage → Sight
 seen_at links s = record { links = links; now = s.moment; begun = s.begun; channels = s.channels; world = s.world }
 
 -- the copy that comes to its end next
-abbrev pub next_copy : Pace → List (List End) → Stage → Option Arrival
-next_copy pace links s = next_of pace (seen_at links s)
+abbrev pub next_copy : Transfer → List (List End) → Stage → Option Arrival
+next_copy transfer links s = next_of transfer (seen_at links s)
 
 -- ---- what comes next
 
@@ -62,23 +62,23 @@ IsCalledFor capacity next s step more = ⊤
 
 -- A step comes next, and behind it so much is told: it's told, or moves a copy. It may stand where this is due, all that a node passed is
 -- put before, the copies that come to their ends before it are taken, and it's called for.
-pub record IsNext (capacity : ℕ) (pace : Pace) (links : List (List End)) (s : Stage) (step : steps.Step) (more : List Order) : Type 0 where
+pub record IsNext (capacity : ℕ) (transfer : Transfer) (links : List (List End)) (s : Stage) (step : steps.Step) (more : List Order) : Type 0 where
   pub does : Does step s.told more
   pub stands : may_stand s.due step ≡ true
   pub puts_first : PutsFirst capacity s.world s.due step
   pub first : is_first s.moment s.begun step ≡ true
-  pub on_time : is_on_time s.moment (next_copy pace links s) step ≡ true
-  pub called_for : IsCalledFor capacity (next_copy pace links s) s step more
+  pub on_time : is_on_time s.moment (next_copy transfer links s) step ≡ true
+  pub called_for : IsCalledFor capacity (next_copy transfer links s) s step more
 
 -- the stage behind a step that is done
-abbrev pub behind : Pace → List (List End) → Stage → steps.Step → List Order → World → Stage
-behind pace links s step more after = record {
+abbrev pub behind : Transfer → List (List End) → Stage → steps.Step → List Order → World → Stage
+behind transfer links s step more after = record {
   told = more;
   due = due_behind links step;
   moment = moment_behind s.moment step;
   begun = begun_behind s.begun step;
   turn = turn_behind s.turn step;
-  channels = channels_behind pace links s.moment s.turn step after s.channels;
+  channels = channels_behind transfer links s.moment s.turn step after s.channels;
   world = after;
 }
 
@@ -88,13 +88,13 @@ telling s more = record s { told = more }
 
 -- Orders do what is told, up to a stage: each is the step that comes next, and is done. Supervision that comes next is left out where
 -- it's about a station that its RedBox doesn't know then.
-pub data Begins (capacity : ℕ) (pace : Pace) (told : Meaning) : List Order → Stage → Type 0 where
-  at_first : Begins capacity pace told [] (first_stage told)
-  done : (orders : List Order) (s : Stage) (step : steps.Step) (more : List Order) (after : World) → Begins capacity pace told orders s
-      → IsNext capacity pace told.topology.links s step more → tried capacity s.world step ≡ Ok after
-      → Begins capacity pace told (orders ++ Step step ∷ []) (behind pace told.topology.links s step more after)
-  left_out : (orders : List Order) (s : Stage) (step : steps.Step) (more : List Order) → Begins capacity pace told orders s
-      → IsNext capacity pace told.topology.links s step more → IsUnknownTo capacity s.world step → Begins capacity pace told orders (telling s more)
+pub data Begins (capacity : ℕ) (transfer : Transfer) (told : Meaning) : List Order → Stage → Type 0 where
+  at_first : Begins capacity transfer told [] (first_stage told)
+  done : (orders : List Order) (s : Stage) (step : steps.Step) (more : List Order) (after : World) → Begins capacity transfer told orders s
+      → IsNext capacity transfer told.topology.links s step more → tried capacity s.world step ≡ Ok after
+      → Begins capacity transfer told (orders ++ Step step ∷ []) (behind transfer told.topology.links s step more after)
+  left_out : (orders : List Order) (s : Stage) (step : steps.Step) (more : List Order) → Begins capacity transfer told orders s
+      → IsNext capacity transfer told.topology.links s step more → IsUnknownTo capacity s.world step → Begins capacity transfer told orders (telling s more)
 
 -- ---- where all is done
 
@@ -105,8 +105,8 @@ IsSettled capacity w (Judgement end) = ⊥
 IsSettled capacity w (Puts n) = HasPut capacity w n
 
 -- orders do all that is told, and no copy is on its way
-pub record DoesAll (capacity : ℕ) (pace : Pace) (told : Meaning) (orders : List Order) (s : Stage) : Type 0 where
-  pub begins : Begins capacity pace told orders s
+pub record DoesAll (capacity : ℕ) (transfer : Transfer) (told : Meaning) (orders : List Order) (s : Stage) : Type 0 where
+  pub begins : Begins capacity transfer told orders s
   pub settled : IsSettled capacity s.world s.due
   pub all : s.told ≡ []
-  pub landed : next_copy pace told.topology.links s ≡ None
+  pub landed : next_copy transfer told.topology.links s ≡ None

@@ -23,8 +23,8 @@ use Rattle.hsr_wire.specs.Time.{time_of}
 use Rattle.hsr_world_steps.specs.declared.step.Step.TheVariants.{Clock, Put, Take, Judge, Cut}
 use Rattle.hsr_world_steps.specs.declared.step.Step as steps
 use Rattle.hsr_world_laws.specs.World.{World, span_at, tried}
-use Rattle.hsr_plan_text.specs.declared.plan.Pace.{Pace}
-use Rattle.hsr_plan_text.specs.declared.plan.Pace.TheVariants as pace
+use Rattle.hsr_plan_text.specs.declared.plan.Transfer.{Transfer}
+use Rattle.hsr_plan_text.specs.declared.plan.Transfer.TheVariants as transfer
 use Rattle.hsr_plan_text.specs.declared.plan.Switching.{Switching}
 use Rattle.hsr_plan_text.specs.declared.plan.Switching.TheVariants as switching
 use Rattle.hsr_plan_text.specs.declared.plan.Wire.{Wire}
@@ -91,30 +91,30 @@ free_behind w None = 0
 free_behind w (Some f) = if is_cut_off_if (slice_get (rows_at w f.link) f.row) then 0 else f.ends
 
 -- a copy that is put now, where its channel is free from a moment on: hops don't get in each other's way, and a wire carries one frame at a time
-abbrev pub begins_at : Pace → ℕ → ℕ → ℕ
-begins_at (pace.Hop us) now free = now
-begins_at (pace.Wire wire) now free = max now free
+abbrev pub begins_at : Transfer → ℕ → ℕ → ℕ
+begins_at (transfer.Hop us) now free = now
+begins_at (transfer.Wire wire) now free = max now free
 
 -- how long octets take on a wire; a rate of 0, which no plan has, counts as 1
 abbrev pub time_on : Wire → ℕ → ℕ
 time_on wire octets = time_of (max 1 wire.rate) octets
 
 -- a frame takes its wire with all that stands before and behind it
-abbrev pub ends_at : Pace → ℕ → List ℕ → ℕ
-ends_at (pace.Hop us) begins octets = begins
-ends_at (pace.Wire wire) begins octets = later begins (time_on wire (wire_octets octets))
+abbrev pub ends_at : Transfer → ℕ → List ℕ → ℕ
+ends_at (transfer.Hop us) begins octets = begins
+ends_at (transfer.Wire wire) begins octets = later begins (time_on wire (wire_octets octets))
 
 -- ---- channels behind a step
 
 -- the copy of a row that a channel has to carry from now on
-abbrev pub flight_of : Pace → ℕ → ℕ → ℕ → Dir → ℕ → ℕ → Row → Flight
-flight_of pace now turn l dir number free row = record {
+abbrev pub flight_of : Transfer → ℕ → ℕ → ℕ → Dir → ℕ → ℕ → Row → Flight
+flight_of transfer now turn l dir number free row = record {
   link = l;
   dir = dir;
   row = number;
   turn = turn;
-  begins = begins_at pace now free;
-  ends = ends_at pace (begins_at pace now free) row.carried.octets;
+  begins = begins_at transfer now free;
+  ends = ends_at transfer (begins_at transfer now free) row.carried.octets;
 }
 
 -- the channel with that copy
@@ -122,14 +122,14 @@ abbrev pub carrying : World → Channel → Flight → Channel
 carrying w c f = record { waiting = on_way w c.waiting ++ f ∷ []; last = Some f }
 
 -- a copy that was lost as it was put isn't carried
-abbrev pub put_if : Pace → ℕ → ℕ → ℕ → Dir → World → Channel → Option Row → Channel
-put_if pace now turn l dir w c None = c
-put_if pace now turn l dir w c (Some row) =
-    if is_queued row.fate then carrying w c (flight_of pace now turn l dir (length (rows_at w l) - 1) (free_behind w c.last) row) else c
+abbrev pub put_if : Transfer → ℕ → ℕ → ℕ → Dir → World → Channel → Option Row → Channel
+put_if transfer now turn l dir w c None = c
+put_if transfer now turn l dir w c (Some row) =
+    if is_queued row.fate then carrying w c (flight_of transfer now turn l dir (length (rows_at w l) - 1) (free_behind w c.last) row) else c
 
 -- a copy was put: the last row of the link is its
-abbrev pub put_on : Pace → ℕ → ℕ → ℕ → Dir → World → Channel → Channel
-put_on pace now turn l dir w c = put_if pace now turn l dir w c (slice_get (rows_at w l) (length (rows_at w l) - 1))
+abbrev pub put_on : Transfer → ℕ → ℕ → ℕ → Dir → World → Channel → Channel
+put_on transfer now turn l dir w c = put_if transfer now turn l dir w c (slice_get (rows_at w l) (length (rows_at w l) - 1))
 
 -- what was taken, or lost by a cut, is forgotten
 abbrev pub kept : World → Channel → Channel
@@ -139,31 +139,31 @@ kept w c = record c { waiting = on_way w c.waiting }
 abbrev pub with_channel : List Channel → ℕ → Channel → List Channel
 with_channel cs l c = if nat_lt l (length cs) then slice_set cs l c else cs
 
-abbrev pub put_at : Pace → ℕ → ℕ → ℕ → Dir → World → List Channel → List Channel
-put_at pace now turn l dir w cs = with_channel cs l (put_on pace now turn l dir w (slice_index_or cs l no_channel))
+abbrev pub put_at : Transfer → ℕ → ℕ → ℕ → Dir → World → List Channel → List Channel
+put_at transfer now turn l dir w cs = with_channel cs l (put_on transfer now turn l dir w (slice_index_or cs l no_channel))
 
 abbrev pub kept_at : ℕ → World → List Channel → List Channel
 kept_at l w cs = with_channel cs l (kept w (slice_index_or cs l no_channel))
 
-abbrev pub put_in : Pace → ℕ → ℕ → ℕ → Dir → World → Channels → Channels
-put_in pace now turn l Forth w cs = record cs { forth = put_at pace now turn l Forth w cs.forth }
-put_in pace now turn l Back w cs = record cs { back = put_at pace now turn l Back w cs.back }
+abbrev pub put_in : Transfer → ℕ → ℕ → ℕ → Dir → World → Channels → Channels
+put_in transfer now turn l Forth w cs = record cs { forth = put_at transfer now turn l Forth w cs.forth }
+put_in transfer now turn l Back w cs = record cs { back = put_at transfer now turn l Back w cs.back }
 
 abbrev pub kept_in : ℕ → Dir → World → Channels → Channels
 kept_in l Forth w cs = record cs { forth = kept_at l w cs.forth }
 kept_in l Back w cs = record cs { back = kept_at l w cs.back }
 
 -- a port put a copy on its link
-abbrev pub put_by : Pace → ℕ → ℕ → World → Channels → Option (ℕ × Bool) → Channels
-put_by pace now turn w cs None = cs
-put_by pace now turn w cs (Some at) = put_in pace now turn at.0 (if at.1 then Forth else Back) w cs
+abbrev pub put_by : Transfer → ℕ → ℕ → World → Channels → Option (ℕ × Bool) → Channels
+put_by transfer now turn w cs None = cs
+put_by transfer now turn w cs (Some at) = put_in transfer now turn at.0 (if at.1 then Forth else Back) w cs
 
 -- the channels behind a step that led to this world
-abbrev pub channels_behind : Pace → List (List End) → ℕ → ℕ → steps.Step → World → Channels → Channels
-channels_behind pace links now turn (Put n port) w cs = put_by pace now turn w cs (link_from 0 links (record { node = n; port = port }))
-channels_behind pace links now turn (Take l dir) w cs = kept_in l dir w cs
-channels_behind pace links now turn (Cut l) w cs = kept_in l Back w (kept_in l Forth w cs)
-channels_behind pace links now turn step w cs = cs
+abbrev pub channels_behind : Transfer → List (List End) → ℕ → ℕ → steps.Step → World → Channels → Channels
+channels_behind transfer links now turn (Put n port) w cs = put_by transfer now turn w cs (link_from 0 links (record { node = n; port = port }))
+channels_behind transfer links now turn (Take l dir) w cs = kept_in l dir w cs
+channels_behind transfer links now turn (Cut l) w cs = kept_in l Back w (kept_in l Forth w cs)
+channels_behind transfer links now turn step w cs = cs
 
 -- how many copies were put, behind a step
 abbrev pub turn_behind : ℕ → steps.Step → ℕ
@@ -238,22 +238,22 @@ arrives_by v wire switching.Store f = end_at wire f
 arrives_by v wire switching.Cut f = if is_cut_through v wire f then head_at wire f else end_at wire f
 
 -- a hop takes so long; by a wire a node judges a frame once it's there as a whole, or cuts through
-abbrev pub arrives_at : Pace → Sight → Flight → ℕ
-arrives_at (pace.Hop us) v f = later f.begins us
-arrives_at (pace.Wire wire) v f = arrives_by v wire wire.switching f
+abbrev pub arrives_at : Transfer → Sight → Flight → ℕ
+arrives_at (transfer.Hop us) v f = later f.begins us
+arrives_at (transfer.Wire wire) v f = arrives_by v wire wire.switching f
 
 -- ---- the copy that comes to its end next
 
-abbrev pub arrival_of : Pace → Sight → Flight → Arrival
-arrival_of pace v f = record { link = f.link; dir = f.dir; turn = f.turn; at = arrives_at pace v f }
+abbrev pub arrival_of : Transfer → Sight → Flight → Arrival
+arrival_of transfer v f = record { link = f.link; dir = f.dir; turn = f.turn; at = arrives_at transfer v f }
 
-abbrev pub arrival_if : Pace → Sight → Option Flight → Option Arrival
-arrival_if pace v None = None
-arrival_if pace v (Some f) = Some (arrival_of pace v f)
+abbrev pub arrival_if : Transfer → Sight → Option Flight → Option Arrival
+arrival_if transfer v None = None
+arrival_if transfer v (Some f) = Some (arrival_of transfer v f)
 
 -- of the copies of a channel the first that waits is the first to arrive
-abbrev pub arrival_on : Pace → Sight → Channel → Option Arrival
-arrival_on pace v c = arrival_if pace v (slice_get (on_way v.world c.waiting) 0)
+abbrev pub arrival_on : Transfer → Sight → Channel → Option Arrival
+arrival_on transfer v c = arrival_if transfer v (slice_get (on_way v.world c.waiting) 0)
 
 -- at one moment those arrive first that were put first
 abbrev pub is_sooner : Arrival → Arrival → Bool
@@ -264,12 +264,12 @@ sooner None b = b
 sooner (Some a) None = Some a
 sooner (Some a) (Some b) = if is_sooner b a then Some b else Some a
 
-abbrev pub sooner_on : Pace → Sight → Option Arrival → Channel → Option Arrival
-sooner_on pace v a c = sooner a (arrival_on pace v c)
+abbrev pub sooner_on : Transfer → Sight → Option Arrival → Channel → Option Arrival
+sooner_on transfer v a c = sooner a (arrival_on transfer v c)
 
 -- of all channels
-abbrev pub next_of : Pace → Sight → Option Arrival
-next_of pace v = fold (sooner_on pace v) (fold (sooner_on pace v) None v.channels.forth) v.channels.back
+abbrev pub next_of : Transfer → Sight → Option Arrival
+next_of transfer v = fold (sooner_on transfer v) (fold (sooner_on transfer v) None v.channels.forth) v.channels.back
 
 -- ---- what may be done while a copy is the next that comes to its end, if there is one
 
@@ -298,19 +298,19 @@ is_on_time now next _ = is_before_end now next
 -- ---- all
 
 -- what is seen behind a step that led to this world
-abbrev pub seen_behind : Pace → ℕ → Sight → steps.Step → World → Sight
-seen_behind pace turn v step after = record {
+abbrev pub seen_behind : Transfer → ℕ → Sight → steps.Step → World → Sight
+seen_behind transfer turn v step after = record {
   links = v.links;
   now = moment_behind v.now step;
   begun = begun_behind v.begun step;
-  channels = channels_behind pace v.links v.now turn step after v.channels;
+  channels = channels_behind transfer v.links v.now turn step after v.channels;
   world = after;
 }
 
 -- so it is with all these orders, of which the first stands where this is seen, behind so many puts
-abbrev pub AreOnTime : ℕ → Pace → ℕ → Sight → List Order → Type 0
-AreOnTime capacity pace turn v [] = Unit {0}
-AreOnTime capacity pace turn v (Drain ∷ orders) = ⊥
-AreOnTime capacity pace turn v (Step step ∷ orders) =
-    (between : World) × (tried capacity v.world step ≡ Ok between) × (is_on_time v.now (next_of pace v) step ≡ true)
-    × AreOnTime capacity pace (turn_behind turn step) (seen_behind pace turn v step between) orders
+abbrev pub AreOnTime : ℕ → Transfer → ℕ → Sight → List Order → Type 0
+AreOnTime capacity transfer turn v [] = Unit {0}
+AreOnTime capacity transfer turn v (Drain ∷ orders) = ⊥
+AreOnTime capacity transfer turn v (Step step ∷ orders) =
+    (between : World) × (tried capacity v.world step ≡ Ok between) × (is_on_time v.now (next_of transfer v) step ≡ true)
+    × AreOnTime capacity transfer (turn_behind turn step) (seen_behind transfer turn v step between) orders

@@ -15,7 +15,7 @@ use crate::unmoved::Unmoved;
 use crate::weaving::{Weaving, does, obeys, settles};
 use hsr_frame::NoMemory;
 use hsr_plan_schedule::Meaning;
-use hsr_plan_text::Pace;
+use hsr_plan_text::Transfer;
 use hsr_ring::World;
 use hsr_scenario::Order;
 use hsr_topology::Topology;
@@ -36,13 +36,13 @@ fn comes_first(now: u64, told: &[Order], copy: Arrival) -> bool
 
 /// The next copy, if it comes to its end before what is told next.
 fn arriving<const C: usize>(
-    pace: Pace,
+    transfer: Transfer,
     topology: &Topology,
     stage: &Stage<'_, C>,
 ) -> Option<Arrival>
-    ensures { result ≡ arriving pace topology.now.links stage.now }
+    ensures { result ≡ arriving transfer topology.now.links stage.now }
 {
-    let copy = stage.next_copy(pace, topology)?;
+    let copy = stage.next_copy(transfer, topology)?;
     if comes_first(stage.moment, stage.told, copy) {
         Some(copy)
     } else {
@@ -53,20 +53,20 @@ fn arriving<const C: usize>(
 /// Takes a copy that has come to its end.
 fn takes<const C: usize>(
     told: &Meaning,
-    pace: Pace,
+    transfer: Transfer,
     copy: Arrival,
     weaving: &mut Weaving<'_, C>,
 ) -> Result<(), Unmoved>
-    requires idle { IsIdle C pace told.now weaving.old }
-    requires next { next_copy pace told.now.topology.links weaving.old.stage ≡ Some copy }
+    requires idle { IsIdle C transfer told.now weaving.old }
+    requires next { next_copy transfer told.now.topology.links weaving.old.stage ≡ Some copy }
     requires now { copy.at ≡ weaving.old.stage.moment }
     requires first { weaving.old.stage.begun ≡ false }
-    ensures ok { OnOk result (Advances C pace told.now weaving.old weaving.new) }
-    ensures err { IfErr result (IsUnmovedAtPace C pace told.now) }
+    ensures ok { OnOk result (Advances C transfer told.now weaving.old weaving.new) }
+    ensures err { IfErr result (IsUnmovedAtPace C transfer told.now) }
 {
     let Arrival { link, dir, .. } = copy;
     let more = weaving.stage.told;
-    does(told, pace, &Step::Take { link, dir }, more, weaving)
+    does(told, transfer, &Step::Take { link, dir }, more, weaving)
 }
 
 /// What is told behind a moment that comes next.
@@ -83,41 +83,41 @@ fn behind_moment(at: u64, told: &[Order]) -> &[Order]
 /// Sets the moment at which a copy comes to its end.
 fn waits<const C: usize>(
     told: &Meaning,
-    pace: Pace,
+    transfer: Transfer,
     copy: Arrival,
     weaving: &mut Weaving<'_, C>,
 ) -> Result<(), Unmoved>
-    requires idle { IsIdle C pace told.now weaving.old }
-    requires next { next_copy pace told.now.topology.links weaving.old.stage ≡ Some copy }
+    requires idle { IsIdle C transfer told.now weaving.old }
+    requires next { next_copy transfer told.now.topology.links weaving.old.stage ≡ Some copy }
     requires first { comes_first weaving.old.stage.moment weaving.old.stage.told copy ≡ true }
     requires early { weaving.old.stage.moment < copy.at }
-    ensures ok { OnOk result (Advances C pace told.now weaving.old weaving.new) }
-    ensures err { IfErr result (IsUnmovedAtPace C pace told.now) }
+    ensures ok { OnOk result (Advances C transfer told.now weaving.old weaving.new) }
+    ensures err { IfErr result (IsUnmovedAtPace C transfer told.now) }
 {
     let more = behind_moment(copy.at, weaving.stage.told);
-    does(told, pace, &Step::Clock { at: copy.at }, more, weaving)
+    does(told, transfer, &Step::Clock { at: copy.at }, more, weaving)
 }
 
 /// Takes a copy that comes to its end before what is told next, or sets the moment at which it does.
 fn lands<const C: usize>(
     told: &Meaning,
-    pace: Pace,
+    transfer: Transfer,
     copy: Arrival,
     weaving: &mut Weaving<'_, C>,
 ) -> Result<(), Unmoved>
-    requires idle { IsIdle C pace told.now weaving.old }
-    requires arriving { arriving pace told.now.topology.links weaving.old.stage ≡ Some copy }
-    ensures ok { OnOk result (Advances C pace told.now weaving.old weaving.new) }
-    ensures err { IfErr result (IsUnmovedAtPace C pace told.now) }
+    requires idle { IsIdle C transfer told.now weaving.old }
+    requires arriving { arriving transfer told.now.topology.links weaving.old.stage ≡ Some copy }
+    ensures ok { OnOk result (Advances C transfer told.now weaving.old weaving.new) }
+    ensures err { IfErr result (IsUnmovedAtPace C transfer told.now) }
 {
     if !is_to_come(weaving.stage.moment, weaving.stage.begun, copy.at) {
         // Nothing brings back a moment that is past.
         return Err(Unmoved::Differs);
     }
     if weaving.stage.moment < copy.at {
-        waits(told, pace, copy, weaving)
+        waits(told, transfer, copy, weaving)
     } else {
-        takes(told, pace, copy, weaving)
+        takes(told, transfer, copy, weaving)
     }
 }
 
@@ -137,20 +137,20 @@ fn may_be_told(now: u64, order: &Order) -> bool
 /// Does what is told next, where no copy comes to its end before.
 fn follows<'a, const C: usize>(
     told: &Meaning,
-    pace: Pace,
+    transfer: Transfer,
     order: &Order,
     more: &'a [Order],
     weaving: &mut Weaving<'a, C>,
 ) -> Result<(), Unmoved>
-    requires idle { IsIdle C pace told.now weaving.old }
+    requires idle { IsIdle C transfer told.now weaving.old }
     requires first { weaving.old.stage.told ≡ order.now ∷ more.now }
-    requires arriving { arriving pace told.now.topology.links weaving.old.stage ≡ None }
-    ensures ok { OnOk result (Advances C pace told.now weaving.old weaving.new) }
-    ensures err { IfErr result (IsUnmovedAtPace C pace told.now) }
+    requires arriving { arriving transfer told.now.topology.links weaving.old.stage ≡ None }
+    ensures ok { OnOk result (Advances C transfer told.now weaving.old weaving.new) }
+    ensures err { IfErr result (IsUnmovedAtPace C transfer told.now) }
 {
     match order {
         Order::Step(step) if may_be_told(weaving.stage.moment, order) => {
-            obeys(told, pace, step, more, weaving)
+            obeys(told, transfer, step, more, weaving)
         }
         // So a refusal is true of the plan: the order that comes next can't be done.
         _ => Err(Unmoved::Differs),
@@ -160,37 +160,37 @@ fn follows<'a, const C: usize>(
 /// Does what comes next. The answer is whether something did.
 fn advances<const C: usize>(
     told: &Meaning,
-    pace: Pace,
+    transfer: Transfer,
     weaving: &mut Weaving<'_, C>,
 ) -> Result<bool, Unmoved>
-    requires idle { IsIdle C pace told.now weaving.old }
-    ensures ok { IfOk result (AdvancesIf C pace told.now weaving.old weaving.new) }
-    ensures err { IfErr result (IsUnmovedAtPace C pace told.now) }
+    requires idle { IsIdle C transfer told.now weaving.old }
+    ensures ok { IfOk result (AdvancesIf C transfer told.now weaving.old weaving.new) }
+    ensures err { IfErr result (IsUnmovedAtPace C transfer told.now) }
 {
-    if let Some(copy) = arriving(pace, &told.topology, &weaving.stage) {
-        lands(told, pace, copy, weaving)?;
+    if let Some(copy) = arriving(transfer, &told.topology, &weaving.stage) {
+        lands(told, transfer, copy, weaving)?;
         return Ok(true);
     }
     let Some((order, more)) = weaving.stage.told.split_first() else {
         return Ok(false);
     };
-    follows(told, pace, order, more, weaving)?;
+    follows(told, transfer, order, more, weaving)?;
     Ok(true)
 }
 
 /// Does what comes next, and what has to be done at once behind it. The answer is whether something did.
 fn goes_on<const C: usize>(
     told: &Meaning,
-    pace: Pace,
+    transfer: Transfer,
     weaving: &mut Weaving<'_, C>,
 ) -> Result<bool, Unmoved>
-    requires idle { IsIdle C pace told.now weaving.old }
-    ensures ok { IfOk result (GoesOnFrom C pace told.now weaving.old weaving.new) }
-    ensures err { IfErr result (IsUnmovedAtPace C pace told.now) }
+    requires idle { IsIdle C transfer told.now weaving.old }
+    ensures ok { IfOk result (GoesOnFrom C transfer told.now weaving.old weaving.new) }
+    ensures err { IfErr result (IsUnmovedAtPace C transfer told.now) }
 {
-    if advances(told, pace, weaving)? {
+    if advances(told, transfer, weaving)? {
         // Behind each step at once, so that a copy is put at the moment at which it was passed.
-        settles(told, pace, weaving)?;
+        settles(told, transfer, weaving)?;
         Ok(true)
     } else {
         Ok(false)
@@ -200,16 +200,16 @@ fn goes_on<const C: usize>(
 /// Does all that is told, and brings all copies to their ends.
 fn does_all<const C: usize>(
     told: &Meaning,
-    pace: Pace,
+    transfer: Transfer,
     weaving: &mut Weaving<'_, C>,
 ) -> Result<(), Unmoved>
-    requires idle { IsIdle C pace told.now weaving.old }
-    ensures ok { OnOk result (DoesAll C pace told.now weaving.new.orders weaving.new.stage) }
-    ensures err { IfErr result (IsUnmovedAtPace C pace told.now) }
+    requires idle { IsIdle C transfer told.now weaving.old }
+    ensures ok { OnOk result (DoesAll C transfer told.now weaving.new.orders weaving.new.stage) }
+    ensures err { IfErr result (IsUnmovedAtPace C transfer told.now) }
 {
     // It ends, since orders are counted: over 2^20 of them are `Endless`.
     'orders: loop {
-        if !goes_on(told, pace, weaving)? {
+        if !goes_on(told, transfer, weaving)? {
             return Ok(());
         }
     }
@@ -230,12 +230,12 @@ fn world_of<const C: usize>(alloc: Global, told: &Meaning) -> Result<World<C>, N
 pub(crate) fn woven<const C: usize>(
     alloc: Global,
     told: &Meaning,
-    pace: Pace,
+    transfer: Transfer,
 ) -> Result<Weaving<'_, C>, Unmoved>
     requires entries { IsTableSize C }
     requires room { (1 ≤ told.now.capacity) × (told.now.capacity ≤ 4096) }
-    ensures ok { IfOk result (λ v. DoesAll C pace told.now v.orders v.stage) }
-    ensures err { IfErr result (IsUnmovedAtPace C pace told.now) }
+    ensures ok { IfOk result (λ v. DoesAll C transfer told.now v.orders v.stage) }
+    ensures err { IfErr result (IsUnmovedAtPace C transfer told.now) }
 {
     let stage = Stage {
         told: told.orders.as_slice(),
@@ -250,6 +250,6 @@ pub(crate) fn woven<const C: usize>(
         stage,
         orders: Vec::new(alloc),
     };
-    does_all(told, pace, &mut weaving)?;
+    does_all(told, transfer, &mut weaving)?;
     Ok(weaving)
 }

@@ -7,7 +7,7 @@ use crate::flights::{
 };
 use crate::turns::receiver;
 use hsr_link::Dir;
-use hsr_plan_text::{Pace, Switching, Wire};
+use hsr_plan_text::{Transfer, Switching, Wire};
 use hsr_ring::World;
 use hsr_topology::{End, Topology};
 use std::marker::Model;
@@ -140,54 +140,54 @@ impl<'a, const C: usize> Sight<'a, C> {
     }
 
     /// When a copy comes to its end.
-    fn arrives_at(&self, pace: Pace, flight: Flight) -> u64
-        ensures { result ≡ arrives_at pace self.now flight }
+    fn arrives_at(&self, transfer: Transfer, flight: Flight) -> u64
+        ensures { result ≡ arrives_at transfer self.now flight }
     {
-        match pace {
-            Pace::Hop(us) => later(flight.begins, us),
-            Pace::Wire(wire) => self.arrives_by(wire, flight),
+        match transfer {
+            Transfer::Hop(us) => later(flight.begins, us),
+            Transfer::Wire(wire) => self.arrives_by(wire, flight),
         }
     }
 
     /// The end of a copy's way.
-    fn arrival_of(&self, pace: Pace, flight: Flight) -> Arrival
-        ensures { result ≡ arrival_of pace self.now flight }
+    fn arrival_of(&self, transfer: Transfer, flight: Flight) -> Arrival
+        ensures { result ≡ arrival_of transfer self.now flight }
     {
         Arrival {
             link: flight.link,
             dir: flight.dir,
             turn: flight.turn,
-            at: self.arrives_at(pace, flight),
+            at: self.arrives_at(transfer, flight),
         }
     }
 
     /// The first arrival of a channel.
-    fn arrival_on(&self, pace: Pace, channel: &Channel) -> Option<Arrival>
-        ensures { result ≡ arrival_on pace self.now channel.now }
+    fn arrival_on(&self, transfer: Transfer, channel: &Channel) -> Option<Arrival>
+        ensures { result ≡ arrival_on transfer self.now channel.now }
     {
         match first_waiting(self.world, &channel.waiting) {
-            Some(flight) => Some(self.arrival_of(pace, flight)),
+            Some(flight) => Some(self.arrival_of(transfer, flight)),
             None => None,
         }
     }
 
     /// The first of an arrival and of those of channels.
-    fn soonest(&self, pace: Pace, first: Option<Arrival>, channels: &[Channel]) -> Option<Arrival>
-        ensures { result ≡ fold (sooner_on pace self.now) first channels.now }
+    fn soonest(&self, transfer: Transfer, first: Option<Arrival>, channels: &[Channel]) -> Option<Arrival>
+        ensures { result ≡ fold (sooner_on transfer self.now) first channels.now }
     {
         let mut next = first;
         for channel in channels {
-            next = sooner(next, self.arrival_on(pace, channel));
+            next = sooner(next, self.arrival_on(transfer, channel));
         }
         next
     }
 
     /// The copy that comes to its end next; none where none is on its way.
-    pub(crate) fn next(&self, pace: Pace) -> Option<Arrival>
-        ensures { result ≡ next_of pace self.now }
+    pub(crate) fn next(&self, transfer: Transfer) -> Option<Arrival>
+        ensures { result ≡ next_of transfer self.now }
     {
-        let next = self.soonest(pace, None, self.channels.forth.as_slice());
-        self.soonest(pace, next, self.channels.back.as_slice())
+        let next = self.soonest(transfer, None, self.channels.forth.as_slice());
+        self.soonest(transfer, next, self.channels.back.as_slice())
     }
 }
 

@@ -8,7 +8,7 @@ ghost use Rattle.hsr_plan_hops.specs.Flights.{begins_at, carrying, channels_behi
 
 use hsr_frame::NoMemory;
 use hsr_link::{Dir, Fate, Row};
-use hsr_plan_text::{Pace, Wire};
+use hsr_plan_text::{Transfer, Wire};
 use hsr_ring::World;
 use hsr_topology::{End, Topology};
 use hsr_wire::{time_of, wire_octets};
@@ -168,12 +168,12 @@ pub(crate) fn free_behind<const C: usize>(world: &World<C>, last: Option<Flight>
 }
 
 /// When a copy that is put now begins to go, over a channel that is free from a moment on.
-pub(crate) fn begins_at(pace: Pace, now: u64, free: u64) -> u64
-    ensures { result ≡ begins_at pace now free }
+pub(crate) fn begins_at(transfer: Transfer, now: u64, free: u64) -> u64
+    ensures { result ≡ begins_at transfer now free }
 {
-    match pace {
-        Pace::Hop(_) => now,
-        Pace::Wire(_) => now.max(free),
+    match transfer {
+        Transfer::Hop(_) => now,
+        Transfer::Wire(_) => now.max(free),
     }
 }
 
@@ -185,12 +185,12 @@ pub(crate) fn time_on(wire: Wire, octets: u64) -> u64
 }
 
 /// When a channel is free behind a copy that begins then.
-pub(crate) fn ends_at(pace: Pace, begins: u64, octets: &[u8]) -> u64
-    ensures { result ≡ ends_at pace begins octets.now }
+pub(crate) fn ends_at(transfer: Transfer, begins: u64, octets: &[u8]) -> u64
+    ensures { result ≡ ends_at transfer begins octets.now }
 {
-    match pace {
-        Pace::Hop(_) => begins,
-        Pace::Wire(wire) => later(begins, time_on(wire, wire_octets(octets))),
+    match transfer {
+        Transfer::Hop(_) => begins,
+        Transfer::Wire(wire) => later(begins, time_on(wire, wire_octets(octets))),
     }
 }
 
@@ -199,23 +199,23 @@ pub(crate) fn ends_at(pace: Pace, begins: u64, octets: &[u8]) -> u64
 /// How copies move, the moment, and how many copies were put before.
 #[derive(Clone, Copy)]
 pub(crate) struct Instant {
-    pub(crate) pace: Pace,
+    pub(crate) transfer: Transfer,
     pub(crate) now: u64,
     pub(crate) turn: u64,
 }
 
 /// The copy of a row that a channel, free from a moment on, has to carry from now on.
 fn flight_of(instant: Instant, link: usize, dir: Dir, number: usize, free: u64, row: &Row) -> Flight
-    ensures { result ≡ flight_of instant.pace instant.now instant.turn link dir number free row.now }
+    ensures { result ≡ flight_of instant.transfer instant.now instant.turn link dir number free row.now }
 {
-    let begins = begins_at(instant.pace, instant.now, free);
+    let begins = begins_at(instant.transfer, instant.now, free);
     Flight {
         link,
         dir,
         row: number,
         turn: instant.turn,
         begins,
-        ends: ends_at(instant.pace, begins, row.carried.octets.as_slice()),
+        ends: ends_at(instant.transfer, begins, row.carried.octets.as_slice()),
     }
 }
 
@@ -239,7 +239,7 @@ impl Channel {
         world: &World<C>,
     ) -> Result<(), NoMemory>
         ensures { OnOk result (self.new
-            ≡ put_on instant.pace instant.now instant.turn link dir world.now self.old) }
+            ≡ put_on instant.transfer instant.now instant.turn link dir world.now self.old) }
     {
         let rows = rows_at(world, link);
         let number = rows.len().saturating_sub(1);
@@ -270,7 +270,7 @@ fn put_at<const C: usize>(
     world: &World<C>,
 ) -> Result<(), NoMemory>
     ensures { OnOk result (channels.new.items
-        ≡ put_at instant.pace instant.now instant.turn link dir world.now channels.old.items) }
+        ≡ put_at instant.transfer instant.now instant.turn link dir world.now channels.old.items) }
 {
     if link < channels.len() {
         channels[link].put(instant, link, dir, world)?;
@@ -327,7 +327,7 @@ impl Channels {
         world: &World<C>,
     ) -> Result<(), NoMemory>
         ensures { OnOk result (self.new
-            ≡ put_in instant.pace instant.now instant.turn link dir world.now self.old) }
+            ≡ put_in instant.transfer instant.now instant.turn link dir world.now self.old) }
     {
         match dir {
             Dir::Forth => put_at(&mut self.forth, instant, link, dir, world),
@@ -352,7 +352,7 @@ impl Channels {
         end: End,
         world: &World<C>,
     ) -> Result<(), NoMemory>
-        ensures { OnOk result (self.new ≡ put_by instant.pace instant.now instant.turn world.now
+        ensures { OnOk result (self.new ≡ put_by instant.transfer instant.now instant.turn world.now
             self.old (link_from 0 topology.now.links end)) }
     {
         match topology.link_at(end) {
@@ -369,7 +369,7 @@ impl Channels {
         step: &Step,
         world: &World<C>,
     ) -> Result<(), NoMemory>
-        ensures { OnOk result (self.new ≡ channels_behind instant.pace topology.now.links
+        ensures { OnOk result (self.new ≡ channels_behind instant.transfer topology.now.links
             instant.now instant.turn step.now world.now self.old) }
     {
         match step {

@@ -2,7 +2,7 @@
 ghost use Rattle.std.specs.Prelude.{◌≡◌, IfErr, IfOk, OnOk};
 ghost use Rattle.hsr_duptable.specs.Table.{IsTableSize};
 ghost use Rattle.hsr_world_laws.specs.Lawful.{IsEnded, finished_of};
-ghost use Rattle.hsr_plan_text.specs.declared.plan.Moves.TheVariants.{Paced};
+ghost use Rattle.hsr_plan_text.specs.declared.plan.Moves.TheVariants.{Timed};
 ghost use Rattle.hsr_plan_hops.specs.Moving.{MeansMoved, Moved, MovesAtPace};
 ghost use Rattle.hsr_plan_hops.specs.Refusing.{IsBadPace, IsUnmoved, IsUnmovedAtPace};
 ghost use Rattle.hsr_plan_hops.specs.Weaving.{EndsBadly, EndsWell, IsOpenFor, IsUnmovedBy};
@@ -13,7 +13,7 @@ use crate::unmoved::Unmoved;
 use crate::weaving::Weaving;
 use hsr_finished_run::{CheckFault, Closed};
 use hsr_plan_schedule::{Meaning, meaning_of};
-use hsr_plan_text::{Moves, Pace, Plan};
+use hsr_plan_text::{Moves, Transfer, Plan};
 use hsr_ring::World;
 use hsr_scenario::Order;
 use std::alloc::Global;
@@ -34,13 +34,13 @@ fn closed<const C: usize>(world: World<C>) -> Result<Closed<C>, Unmoved>
 }
 
 /// Refuses a world that isn't ended, and one in which a copy isn't judged when it has to be.
-fn check_end<const C: usize>(alloc: Global, pace: Pace, world: World<C>) -> Result<(), Unmoved>
-    ensures ok { OnOk result (EndsWell C pace world.entry) }
-    ensures err { IfErr result (EndsBadly C pace world.entry) }
+fn check_end<const C: usize>(alloc: Global, transfer: Transfer, world: World<C>) -> Result<(), Unmoved>
+    ensures ok { OnOk result (EndsWell C transfer world.entry) }
+    ensures err { IfErr result (EndsBadly C transfer world.entry) }
 {
     // No proof says that the run ends well, so it is looked at.
     let run = closed(world)?;
-    if are_in_time(alloc, &run, pace)? {
+    if are_in_time(alloc, &run, transfer)? {
         Ok(())
     } else {
         Err(Unmoved::Differs)
@@ -48,24 +48,24 @@ fn check_end<const C: usize>(alloc: Global, pace: Pace, world: World<C>) -> Resu
 }
 
 /// Whether copies would take no time.
-fn is_bad(pace: Pace) -> bool
-    ensures { (result ≡ true) ↔ IsBadPace pace }
+fn is_bad(transfer: Transfer) -> bool
+    ensures { (result ≡ true) ↔ IsBadPace transfer }
 {
     // With a hop of 0 all would happen at one moment, in an order that nobody chose.
-    matches!(pace, Pace::Hop(0))
+    matches!(transfer, Transfer::Hop(0))
 }
 
 /// The orders that do what is told and move copies by hops or wires.
-fn ordered<const C: usize>(alloc: Global, told: &Meaning, pace: Pace) -> Result<Vec<Order>, Unmoved>
+fn ordered<const C: usize>(alloc: Global, told: &Meaning, transfer: Transfer) -> Result<Vec<Order>, Unmoved>
     requires entries { IsTableSize C }
-    ensures ok { IfOk result (λ orders. MovesAtPace C pace told.now orders.items) }
-    ensures err { IfErr result (IsUnmovedAtPace C pace told.now) }
+    ensures ok { IfOk result (λ orders. MovesAtPace C transfer told.now orders.items) }
+    ensures err { IfErr result (IsUnmovedAtPace C transfer told.now) }
 {
-    if is_bad(pace) || told.capacity < 1 || told.capacity > CAPACITY_LIMIT {
+    if is_bad(transfer) || told.capacity < 1 || told.capacity > CAPACITY_LIMIT {
         return Err(Unmoved::Differs);
     }
-    let Weaving { stage, orders } = woven::<C>(alloc, told, pace)?;
-    check_end(alloc, pace, stage.world)?;
+    let Weaving { stage, orders } = woven::<C>(alloc, told, transfer)?;
+    check_end(alloc, transfer, stage.world)?;
     Ok(orders)
 }
 
@@ -73,13 +73,13 @@ fn ordered<const C: usize>(alloc: Global, told: &Meaning, pace: Pace) -> Result<
 fn moved_at_pace<const C: usize>(
     alloc: Global,
     told: Meaning,
-    pace: Pace,
+    transfer: Transfer,
 ) -> Result<Meaning, Unmoved>
     requires entries { IsTableSize C }
-    ensures ok { IfOk result (λ m. Moved C (Paced pace) told m) }
-    ensures err { IfErr result (IsUnmovedAtPace C pace told) }
+    ensures ok { IfOk result (λ m. Moved C (Timed transfer) told m) }
+    ensures err { IfErr result (IsUnmovedAtPace C transfer told) }
 {
-    let orders = ordered::<C>(alloc, &told, pace)?;
+    let orders = ordered::<C>(alloc, &told, transfer)?;
     Ok(Meaning {
         nodes: told.nodes,
         topology: told.topology,
@@ -103,7 +103,7 @@ fn with_moves<const C: usize>(
 {
     match moves {
         Moves::EachSendDrains | Moves::EachMomentDrains => Ok(told),
-        Moves::Paced(pace) => moved_at_pace::<C>(alloc, told, pace),
+        Moves::Timed(transfer) => moved_at_pace::<C>(alloc, told, transfer),
     }
 }
 

@@ -7,7 +7,7 @@ use crate::arrivals::Sight;
 use crate::flights::{Arrival, Channels, Instant, turn_behind};
 use crate::turns::{Due, begun_behind, due_behind, moment_behind};
 use hsr_frame::NoMemory;
-use hsr_plan_text::Pace;
+use hsr_plan_text::Transfer;
 use hsr_ring::World;
 use hsr_scenario::Order;
 use hsr_topology::Topology;
@@ -37,8 +37,8 @@ impl<'a, const C: usize> Model for Stage<'a, C> {
 
 impl<'a, const C: usize> Stage<'a, C> {
     /// The copy that comes to its end next.
-    pub(crate) fn next_copy(&self, pace: Pace, topology: &Topology) -> Option<Arrival>
-        ensures { result ≡ next_copy pace topology.now.links self.now }
+    pub(crate) fn next_copy(&self, transfer: Transfer, topology: &Topology) -> Option<Arrival>
+        ensures { result ≡ next_copy transfer topology.now.links self.now }
     {
         let sight = Sight {
             topology,
@@ -47,7 +47,7 @@ impl<'a, const C: usize> Stage<'a, C> {
             channels: &self.channels,
             world: &self.world,
         };
-        sight.next(pace)
+        sight.next(transfer)
     }
 
     /// What is told from here on.
@@ -60,12 +60,12 @@ impl<'a, const C: usize> Stage<'a, C> {
     /// Does a step, behind which so much is told, or tells why the world refuses it.
     pub(crate) fn tries(
         &mut self,
-        pace: Pace,
+        transfer: Transfer,
         topology: &Topology,
         step: &Step,
         more: &'a [Order],
     ) -> Result<Option<WorldFault>, NoMemory>
-        ensures { IfOk result (IsTried C pace topology.now.links self.old step.now more.now self.new) }
+        ensures { IfOk result (IsTried C transfer topology.now.links self.old step.now more.now self.new) }
     {
         match self.world.step(step) {
             Ok(()) => {}
@@ -74,7 +74,7 @@ impl<'a, const C: usize> Stage<'a, C> {
         }
         // Only behind a step that was done, so that a refused one leaves the stage as it was.
         let instant = Instant {
-            pace,
+            transfer,
             now: self.moment,
             turn: self.turn,
         };

@@ -8,7 +8,7 @@ ghost use Rattle.hsr_plan_hops.specs.Timing.{are_in_time};
 use crate::wires::fit;
 use hsr_finished_run::Closed;
 use hsr_frame::NoMemory;
-use hsr_plan_text::Pace;
+use hsr_plan_text::Transfer;
 use hsr_timeline::{Hop, Spot, hops};
 use std::alloc::Global;
 
@@ -78,13 +78,13 @@ fn are_all_in_time<const C: usize>(closed: &Closed<C>, us: u64, hops: &[Hop]) ->
 pub(crate) fn are_in_time<const C: usize>(
     alloc: Global,
     closed: &Closed<C>,
-    pace: Pace,
+    transfer: Transfer,
 ) -> Result<bool, NoMemory>
-    ensures { IfOk result (λ b. b ≡ are_in_time pace closed.now.run) }
+    ensures { IfOk result (λ b. b ≡ are_in_time transfer closed.now.run) }
 {
     let hops = hops(alloc, closed)?;
-    match pace {
-        Pace::Hop(us) => Ok(are_all_in_time(closed, us, hops.as_slice())),
-        Pace::Wire(wire) => Ok(fit(closed, wire, hops.as_slice())),
+    match transfer {
+        Transfer::Hop(us) => Ok(are_all_in_time(closed, us, hops.as_slice())),
+        Transfer::Wire(wire) => Ok(fit(closed, wire, hops.as_slice())),
     }
 }

@@ -25,9 +25,9 @@ use Rattle.hsr_scenario.specs.declared.steps.Order.TheVariants.{Step, Drain}
 use Rattle.hsr_table_demand.specs.Windows.{most_in}
 use Rattle.hsr_plan_text.specs.Plan.{Outline}
 use Rattle.hsr_plan_text.specs.declared.plan.Moves.{Moves}
-use Rattle.hsr_plan_text.specs.declared.plan.Moves.TheVariants.{EachSendDrains, EachMomentDrains, Paced}
-use Rattle.hsr_plan_text.specs.declared.plan.Pace.{Pace}
-use Rattle.hsr_plan_text.specs.declared.plan.Pace.TheVariants as pace
+use Rattle.hsr_plan_text.specs.declared.plan.Moves.TheVariants.{EachSendDrains, EachMomentDrains, Timed}
+use Rattle.hsr_plan_text.specs.declared.plan.Transfer.{Transfer}
+use Rattle.hsr_plan_text.specs.declared.plan.Transfer.TheVariants as transfer
 use Rattle.hsr_plan_text.specs.declared.plan.Switching.{Switching}
 use Rattle.hsr_plan_text.specs.declared.plan.Switching.TheVariants.{Store, Cut}
 use Rattle.hsr_plan_text.specs.declared.plan.Wire.{Wire}
@@ -208,15 +208,15 @@ switching_text Cut = codes "cut"
 unfoldable pub wire_text : Wire → List ℕ
 wire_text wire = codes "wire " ++ decimal wire.rate ++ codes " Mbit/s, " ++ decimal wire.residence ++ codes " us, " ++ switching_text wire.switching
 
-abbrev pub pace_text : Pace → List ℕ
-pace_text (pace.Hop us) = codes "hop_us = " ++ decimal us
-pace_text (pace.Wire wire) = wire_text wire
+abbrev pub transfer_text : Transfer → List ℕ
+transfer_text (transfer.Hop us) = codes "hop_us = " ++ decimal us
+transfer_text (transfer.Wire wire) = wire_text wire
 
 -- how copies move, as a plan tells it
 abbrev pub moves_text : Moves → List ℕ
 moves_text EachSendDrains = codes "each send drains"
 moves_text EachMomentDrains = codes "each moment drains"
-moves_text (Paced pace) = pace_text pace
+moves_text (Timed transfer) = transfer_text transfer
 
 -- how many nodes and links there are
 unfoldable pub sizes_text : ℕ → ℕ → List ℕ

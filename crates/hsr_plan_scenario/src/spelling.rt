@@ -8,7 +8,7 @@ ghost use Rattle.std.specs.Fmt.{decimal};
 ghost use Rattle.std.specs.List.{flat_map};
 ghost use Rattle.hex.specs.Hex.{encode_upper};
 ghost use Rattle.hsr_frame.specs.Grammar.{pair};
-ghost use Rattle.hsr_plan_scenario.specs.Spelled.{about_text, at_link, at_node, at_port, clock_text, comma, counts_text, digits_text, dir_text, does_text, frame_text, from_text, front_text, letter_or, link_line, link_lines, links_text, listed, mac_text, mode_text, moves_text, name_of, name_text, node_line, nodes_text, octets_text, order_line, order_lines, order_text, pace_text, place_text, port_text, ring_place_text, role_text, scenario_text, sends_text, sizes_text, station_text, stations_text, step_text, stream_text, summary_text, switching_text, title_text, vlan_text, wire_text};
+ghost use Rattle.hsr_plan_scenario.specs.Spelled.{about_text, at_link, at_node, at_port, clock_text, comma, counts_text, digits_text, dir_text, does_text, frame_text, from_text, front_text, letter_or, link_line, link_lines, links_text, listed, mac_text, mode_text, moves_text, name_of, name_text, node_line, nodes_text, octets_text, order_line, order_lines, order_text, transfer_text, place_text, port_text, ring_place_text, role_text, scenario_text, sends_text, sizes_text, station_text, stations_text, step_text, stream_text, summary_text, switching_text, title_text, vlan_text, wire_text};
 
 use crate::sends::{next_stream, send_moments, sends_behind};
 use hsr_frame::{About, Mac, Mode, NoMemory};
@@ -16,7 +16,7 @@ use hsr_link::Dir;
 use hsr_node::Place;
 use hsr_plan_network::Node;
 use hsr_plan_schedule::Meaning;
-use hsr_plan_text::{Moves, Outline, Pace, Switching, Wire, Word};
+use hsr_plan_text::{Moves, Outline, Transfer, Switching, Wire, Word};
 use hsr_scenario::Order;
 use hsr_table_demand::most_of;
 use hsr_text::{put, put_hex, put_number, put_octets};
@@ -611,15 +611,15 @@ fn put_wire(text: &mut Vec<u8>, wire: Wire) -> Result<(), NoMemory>
 }
 
 /// Puts how long copies take last.
-fn put_pace(text: &mut Vec<u8>, pace: Pace) -> Result<(), NoMemory>
-    ensures { OnOk result (text.new.items ≡ text.old.items ++ pace_text pace) }
+fn put_pace(text: &mut Vec<u8>, transfer: Transfer) -> Result<(), NoMemory>
+    ensures { OnOk result (text.new.items ≡ text.old.items ++ transfer_text transfer) }
 {
-    match pace {
-        Pace::Hop(us) => {
+    match transfer {
+        Transfer::Hop(us) => {
             put(text, "hop_us = ")?;
             put_number(text, us)
         }
-        Pace::Wire(wire) => put_wire(text, wire),
+        Transfer::Wire(wire) => put_wire(text, wire),
     }
 }
 
@@ -630,7 +630,7 @@ fn put_moves(text: &mut Vec<u8>, moves: Moves) -> Result<(), NoMemory>
     match moves {
         Moves::EachSendDrains => put(text, "each send drains"),
         Moves::EachMomentDrains => put(text, "each moment drains"),
-        Moves::Paced(pace) => put_pace(text, pace),
+        Moves::Timed(transfer) => put_pace(text, transfer),
     }
 }
 

@@ -144,7 +144,7 @@ fn is_to_speak(moves: Moves, is_known: bool) -> bool
     match moves {
         Moves::EachSendDrains | Moves::EachMomentDrains => is_known,
         // By hops it isn't known yet what has come: each station is tried when the run is played.
-        Moves::Paced(_) => true,
+        Moves::Timed(_) => true,
     }
 }
 
@@ -283,7 +283,7 @@ impl Told {
             Moves::EachSendDrains => self.drain()?,
             Moves::EachMomentDrains => self.sent = true,
             // Copies are moved later, when the run is played.
-            Moves::Paced(_) => {}
+            Moves::Timed(_) => {}
         }
         Ok(())
     }

@@ -17,21 +17,21 @@ use Rattle.hsr_plan_text.specs.declared.fault.Refusal.TheVariants.{Idle, Togethe
 use Rattle.hsr_plan_text.specs.declared.fault.What.{What}
 use Rattle.hsr_plan_text.specs.declared.fault.What.TheVariants.{BadValue, Refused}
 use Rattle.hsr_plan_text.specs.declared.plan.Moves.{Moves}
-use Rattle.hsr_plan_text.specs.declared.plan.Moves.TheVariants.{EachSendDrains, EachMomentDrains, Paced}
+use Rattle.hsr_plan_text.specs.declared.plan.Moves.TheVariants.{EachSendDrains, EachMomentDrains, Timed}
 use Rattle.hsr_plan_text.specs.declared.plan.Switching.TheVariants.{Store}
-use Rattle.hsr_plan_text.specs.declared.plan.Pace.{Pace}
-use Rattle.hsr_plan_text.specs.declared.plan.Pace.TheVariants as pace
+use Rattle.hsr_plan_text.specs.declared.plan.Transfer.{Transfer}
+use Rattle.hsr_plan_text.specs.declared.plan.Transfer.TheVariants as transfer
 use Rattle.hsr_plan_text.specs.declared.plan.Wire.{Wire}
 
 -- ---- hops
 
 abbrev pub hops : Members → Result Moves What
-hops ms = needed faults key.Hop hop ms >>= λ us. Ok (Paced (pace.Hop us))
+hops ms = needed faults key.Hop hop ms >>= λ us. Ok (Timed (transfer.Hop us))
 
 -- `hop_us` stands beside no moves that are told without it
 abbrev pub without_hop : Option Data → Moves → Result Moves What
 without_hop None moves = Ok moves
-without_hop (Some d) (Paced (pace.Hop us)) = Err (Refused (Together key.Hop))
+without_hop (Some d) (Timed (transfer.Hop us)) = Err (Refused (Together key.Hop))
 without_hop (Some d) moves = Err (Refused (Idle key.Hop))
 
 -- ---- wires
@@ -45,7 +45,7 @@ wire ms = do
   Ok (record { rate = rate; residence = residence; switching = switching })
 
 abbrev pub wires : Members → Result Moves What
-wires ms = wire ms >>= λ w. Ok (Paced (pace.Wire w))
+wires ms = wire ms >>= λ w. Ok (Timed (transfer.Wire w))
 
 -- a key of wires changes nothing where copies move otherwise
 abbrev pub idle_if : Key → Option Data → Result Moves What → Result Moves What

@@ -27,7 +27,7 @@ mod words;
 pub use fault::{Key, PlanFault, Refusal, Spot, What};
 pub use hsr_toml::TEXT_LIMIT;
 pub use plan::{
-    Addressed, Behind, Deed, Event, Framing, InMode, Kind, LinkEnd, Moves, Network, Outline, Pace,
+    Addressed, Behind, Deed, Event, Framing, InMode, Kind, LinkEnd, Moves, Network, Outline, Transfer,
     Plan, Ring, Stream, Switching, Target, Timing, Wire,
 };
 pub use reading::read;

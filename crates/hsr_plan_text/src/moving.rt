@@ -11,7 +11,7 @@ ghost use Rattle.hsr_plan_text.specs.declared.fault.Key.TheVariants as key;
 ghost use Rattle.hsr_plan_text.specs.declared.plan.Switching.TheVariants.{Store};
 
 use crate::fault::{Key, Refusal, What};
-use crate::plan::{Moves, Pace, Switching, Wire};
+use crate::plan::{Moves, Transfer, Switching, Wire};
 use crate::words::{HOP_LIMIT, moves_of, switching_of};
 use hsr_toml::{between, needed, number_or, text, value};
 use toml::{Table, Value};
@@ -39,7 +39,7 @@ fn hops(table: &Table) -> Result<Moves, What>
     ensures { Gives (λ m. m) result (hops (table_view table.now)) }
 {
     let hop = hop(table)?;
-    Ok(Moves::Paced(Pace::Hop(hop)))
+    Ok(Moves::Timed(Transfer::Hop(hop)))
 }
 
 /// Moves that are told without `hop_us`, which then may not stand there.
@@ -50,9 +50,9 @@ fn without_hop(table: &Table, moves: Moves) -> Result<Moves, What>
     match (value(table, Key::Hop), moves) {
         (None, _) => Ok(moves),
         // Two ways to say one thing: which of them holds isn't guessed.
-        (Some(_), Moves::Paced(Pace::Hop(_))) => { Err(What::Refused(Refusal::Together(Key::Hop))) }
+        (Some(_), Moves::Timed(Transfer::Hop(_))) => { Err(What::Refused(Refusal::Together(Key::Hop))) }
         // It would say nothing, and whoever wrote it thinks that copies move by hops.
-        (Some(_), Moves::EachSendDrains | Moves::EachMomentDrains | Moves::Paced(Pace::Wire(_))) =>
+        (Some(_), Moves::EachSendDrains | Moves::EachMomentDrains | Moves::Timed(Transfer::Wire(_))) =>
             Err(What::Refused(Refusal::Idle(Key::Hop))),
     }
 }
@@ -101,7 +101,7 @@ fn wires(table: &Table) -> Result<Moves, What>
     ensures { Gives (λ m. m) result (wires (table_view table.now)) }
 {
     let wire = wire(table)?;
-    Ok(Moves::Paced(Pace::Wire(wire)))
+    Ok(Moves::Timed(Transfer::Wire(wire)))
 }
 
 /// Refuses a key of wires where copies move otherwise.

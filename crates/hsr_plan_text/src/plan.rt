@@ -82,7 +82,7 @@ pub struct Wire {
 
 /// How long copies take from node to node.
 #[derive(Clone, Copy, Debug, PartialEq, Eq)]
-pub enum Pace {
+pub enum Transfer {
     /// Each is taken and judged this number of microseconds after it was put.
     Hop(u64),
     /// In each direction of a link one frame goes at a time.
@@ -97,7 +97,7 @@ pub enum Moves {
     /// All are at their end before the next moment.
     EachMomentDrains,
     /// Each is put on its link at once, and taken and judged so much later.
-    Paced(Pace),
+    Timed(Transfer),
 }
 
 /// Whom a stream is for.

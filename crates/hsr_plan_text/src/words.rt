@@ -1,10 +1,10 @@
 //! The words that texts of a plan spell.
 ghost use Rattle.std.specs.Prelude.{◌≡◌, option_map};
 ghost use Rattle.hsr_plan_text.specs.Words.{hop_of, is_title, kind_named, last_number, moves_of, switching_of};
-ghost use Rattle.hsr_plan_text.specs.declared.plan.Moves.TheVariants.{Paced};
-ghost use Rattle.hsr_plan_text.specs.declared.plan.Pace.TheVariants.{Hop};
+ghost use Rattle.hsr_plan_text.specs.declared.plan.Moves.TheVariants.{Timed};
+ghost use Rattle.hsr_plan_text.specs.declared.plan.Transfer.TheVariants.{Hop};
 
-use crate::plan::{Kind, Moves, Pace, Switching};
+use crate::plan::{Kind, Moves, Transfer, Switching};
 use hsr_text::{decimal, word};
 
 /// The most microseconds from a copy's put to its judgement.
@@ -45,10 +45,10 @@ fn hop_of(text: &[u8]) -> Option<u64>
 
 /// That copies move by hops, by its words: so plans told it before `hop_us` was a key.
 fn moves_by_hops(text: &[u8]) -> Option<Moves>
-    ensures { result ≡ option_map (λ hop. Paced (Hop hop)) (hop_of text.now) }
+    ensures { result ≡ option_map (λ hop. Timed (Hop hop)) (hop_of text.now) }
 {
     match hop_of(text) {
-        Some(hop) => Some(Moves::Paced(Pace::Hop(hop))),
+        Some(hop) => Some(Moves::Timed(Transfer::Hop(hop))),
         None => None,
     }
 }

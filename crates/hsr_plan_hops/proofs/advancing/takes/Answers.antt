@@ -10,7 +10,7 @@ does-requires g c = (
   (
     c.requires.idle.begun,
     (
-      takes_at g.row.C c.args.pace c.args.told.now.topology.links c.args.weaving.now.stage c.args.copy _ c.requires.idle.settled c.requires.next c.requires.now c.requires.first
+      takes_at g.row.C c.args.transfer c.args.told.now.topology.links c.args.weaving.now.stage c.args.copy _ c.requires.idle.settled c.requires.next c.requires.now c.requires.first
           (ap (λ (i : Inside g.row.C). i.stage.told) c.weaving-inside.view_is ∙ ap (λ (w : Woven). w.stage.told) c.weaving.view_is),
       refl,
     ),

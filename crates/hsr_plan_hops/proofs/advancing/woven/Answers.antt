@@ -13,7 +13,7 @@ does_all-requires g c =
     let h5 = c.in_ok-world_of.ensures in (
       lit< tt,
       record {
-        begun = begun_first g.row.C c.args.pace c.args.told.now c.as_slice.result.now c.in_ok-new.field-0 c.in_ok-world_of.field-0 c.new-2.result.items
+        begun = begun_first g.row.C c.args.transfer c.args.told.now c.as_slice.result.now c.in_ok-new.field-0 c.in_ok-world_of.field-0 c.new-2.result.items
             (h2 ∙ ap (λ (m : Meaning). m.orders) h1) h3 h5 h4;
         settled = tt;
       },
