@@ -5,8 +5,8 @@
 COUNT (1000) plans from SEED (1) on, or as many as SECONDS allow. Of each that is no fault: the comments are its title, and how many nodes,
 links and sends the scenario has, with the most sends in 800 ms; the capacity is the plan's own, or what it needs; `--check` finds it right; the steps are those that the plan means, in order; model.py refuses none of them; and a RedBox sends supervision about a station just where the model's RedBox knows it then. With BENCH
 the program plays the scenario too, and refuses no step. Each 20th plan is swept, and the lines compared with what model.py counts. About
-half of the plans move copies by hops: there each copy is put in the moment of the entry that passed it, and taken and judged just a hop
-later, before anything else happens at that moment. Of each that is a fault: the status is 1, nothing is written, and the line says why there
+half of the plans move copies by hops or wires: there each copy is put in the moment of the entry that passed it, and taken and judged just
+a hop later, or when its wires and nodes let it come, before anything else happens at that moment. Of each that is a fault: the status is 1, nothing is written, and the line says why there
 is none: the reason, or one of those, that this script finds by itself.
 
 What is excused:
@@ -15,8 +15,8 @@ What is excused:
 - A sweep is compared where it ends. Its line on a terminal isn't looked at.
 - With tables of fewer than 512 entries, which may forget, the bench may end a run as unsettled.
 
-The first difference is shown, with its plan, and ends it. The last line but one says how many plans were told, how many of these by hops,
-how many were swept, and how many were faults, each by its reason; the last how many passed and failed.
+The first difference is shown, with its plan, and ends it. The last line but one says how many plans were told, how many of these by hops
+or wires, how many were swept, and how many were faults, each by its reason; the last how many passed and failed.
 """
 import random
 import subprocess
@@ -107,9 +107,18 @@ def events_of(chance, rings, redboxes, until):
     return events
 
 
+def wires_of(chance):
+    """Keys of wires, some of them; rates that are slow for a plan are among them."""
+    said = {"rate_mbps": chance.choice([1, 2, 10, 100, 1000, 100000]), "residence_us": chance.choice([0, 1, 5, 300]), "switching": chance.choice(["store", "cut", "cut"])}
+    return {key: item for key, item in said.items() if chance.random() < 0.7}
+
+
 def moving_of(chance):
     """How copies move. Hops are told by two keys or by one; few are told wrong."""
     hop = chance.choice([1, chance.randint(1, 1500)])
+    if chance.random() < 0.3:
+        wrong = chance.random() < 0.05 and chance.choice([{"rate_mbps": 0}, {"residence_us": 1000001}, {"switching": "through"}, {"moves": "hops", "hop_us": hop}, {"hop_us": hop}])
+        return {"moves": "wire", **wires_of(chance), **(wrong or {})}
     if chance.random() < 0.03:
         return chance.choice([{"moves": "hops"}, {"hop_us": hop}, {"moves": "hops", "hop_us": 0}, {"moves": f"hop_us = {hop}", "hop_us": hop}])
     return chance.choice([{"moves": "each send drains"}, {"moves": "each moment drains"}, {"moves": "hops", "hop_us": hop}, {"moves": f"hop_us = {hop}"}])
@@ -174,6 +183,11 @@ def hop_of(plan):
     """How long a hop takes, or None where copies don't move by hops."""
     moves = plan.get("moves", "")
     return plan.get("hop_us") if moves == "hops" else int(moves.split()[-1]) if moves.startswith("hop_us") else None
+
+
+def is_paced(plan):
+    """Whether copies move by hops or wires."""
+    return bool(hop_of(plan)) or plan.get("moves") == "wire"
 
 
 class Meaning:
@@ -265,8 +279,13 @@ class Meaning:
         return ("smp_rate" in stream) != ("every_us" in stream)
 
     def reasons_of_moves(self):
-        """Why it isn't told how copies move: `hop_us` stands beside "hops", and there alone."""
+        """Why it isn't told how copies move: `hop_us` stands beside "hops", and there alone, as the keys of wires beside "wire"."""
         moves, hop = self.plan.get("moves", ""), self.plan.get("hop_us")
+        if moves == "wire":
+            right = {"rate_mbps": range(1, 100001), "residence_us": range(1000001), "switching": ("store", "cut")}
+            yield from (f"bad value of {key}:" for key, values in right.items() if key in self.plan and self.plan[key] not in values)
+        elif any(key in self.plan for key in ("rate_mbps", "residence_us", "switching")):
+            yield "this changes nothing:"
         if moves == "hops" and not hop:
             yield "missing word hop_us:" if hop is None else "bad value of hop_us:"
         if moves != "hops" and hop is not None:
@@ -407,11 +426,11 @@ def wanted_deeds(meaning):
             yield now, step
 
 
-class Hops:
-    """A scenario that moves copies by hops, played step by step; a step that stands where it may not is what is wrong."""
+class Paced:
+    """A scenario that moves copies by hops or wires, played step by step; a step that stands where it may not is what is wrong."""
 
     def __init__(self, plan, scenario, table):
-        self.meaning, self.hop = Meaning(plan), hop_of(plan)
+        self.meaning, self.has_begun = Meaning(plan), False
         self.world, self.wanted, self.abouts = model.World(scenario, table), wanted_deeds(self.meaning), []
 
     def waiting(self):
@@ -421,7 +440,7 @@ class Hops:
         return not any(self.world.outbox.values()) and not any(self.world.hand.values())
 
     def is_due(self, moment):
-        return any(row.put_at + self.hop <= moment for row in self.waiting())
+        return any(self.due(row, link) <= moment for link in self.world.links for queue in link.queues for row in queue[:1])
 
     def deed(self, step):
         """What is wrong with a step that is no move, or None."""
@@ -435,8 +454,9 @@ class Hops:
     def move(self, step):
         """What is wrong with a move of a copy, or None."""
         if step["do"] == "take":
-            queue = self.world.links[step["link"]].queues[["forth", "back"].index(step["dir"])]
-            return None if self.is_tidy() and queue and queue[0].put_at + self.hop == self.world.at else "not a hop"
+            link = self.world.links[step["link"]]
+            queue = link.queues[["forth", "back"].index(step["dir"])]
+            return None if self.is_tidy() and queue and self.due(queue[0], link) == self.world.at else "not in time"
         return None
 
     def clock(self, step):
@@ -456,7 +476,8 @@ class Hops:
             return f"refused: {refused}"
         for link, count in zip(self.world.links, rows):
             for row in link.rows[count:]:
-                row.put_at = self.world.at
+                self.note(row, link)
+        self.has_begun = step["do"] not in ("clock", "put", "take", "judge") or self.has_begun and step["do"] != "clock"
         if step["do"] == "life" and "about" not in step and step["node"] in self.meaning.redboxes:
             self.abouts = known_behind(self.meaning, self.world, step["node"])
         return why
@@ -466,13 +487,58 @@ class Hops:
         return None if self.is_tidy() and not self.waiting() and not self.abouts and left is None else f"the end: {left}"
 
 
-def check_hops(plan, scenario, table):
-    """What is wrong with a scenario that moves copies by hops, or None."""
-    hops = Hops(plan, scenario, table)
+class Hops(Paced):
+    """By hops, each copy is taken so long after it was put."""
+
+    def note(self, row, link):
+        row.put_at = self.world.at
+
+    def due(self, row, link):
+        return row.put_at + hop_of(self.meaning.plan)
+
+
+class Wires(Paced):
+    """By wires, each direction of a link carries one frame at a time."""
+
+    def __init__(self, plan, scenario, table):
+        super().__init__(plan, scenario, table)
+        self.rate, self.residence, self.cuts = plan.get("rate_mbps", 100), plan.get("residence_us", 5), plan.get("switching") == "cut"
+        self.last = {}  # of each end of a link the copy that went last from there
+
+    def time(self, octets):
+        return -(-octets * 8 // self.rate)
+
+    def free(self, end):
+        """From when on the direction from an end is free."""
+        row = self.last.get(end)
+        return 0 if row is None or row.fate == "cut" else row.ends
+
+    def note(self, row, link):
+        """A copy that was put: unless it was lost then, it begins when its direction is free."""
+        if row.fate is None:
+            end = link.ends[row.dir]
+            least = 60 if model.read(row.octets).seq is None else 66
+            row.begins = max(self.world.at, self.free(end))
+            row.ends = row.begins + self.time(max(least, len(row.octets)) + 24)
+            self.last[end] = row
+
+    def due(self, row, link):
+        early = row.begins + self.time(22) + self.residence
+        is_to_come = early > self.world.at or early == self.world.at and not self.has_begun
+        here = link.ends[1 - row.dir]
+        others = [end for end in self.world.ends if end[0] == here[0] and end != here]
+        if self.cuts and is_to_come and others and all(self.free(end) <= early for end in others):
+            return early
+        return row.ends + self.residence
+
+
+def check_paced(plan, scenario, table):
+    """What is wrong with a scenario that moves copies by hops or wires, or None."""
+    paced = (Hops if hop_of(plan) else Wires)(plan, scenario, table)
     for place, step in enumerate(scenario["step"]):
-        if why := hops.wrong(step):
+        if why := paced.wrong(step):
             return f"step {place}: {step}: {why}"
-    return hops.end()
+    return paced.end()
 
 
 def sends_told(meaning):
@@ -503,8 +569,8 @@ def check(plan, scenario, table):
         return f"capacity: not {room(plan, scenario)}"
     if [tuple(link["ends"]) for link in scenario["link"]] != list(meaning.ends()):
         return "links"
-    if hop_of(plan):
-        return check_hops(plan, scenario, table)
+    if is_paced(plan):
+        return check_paced(plan, scenario, table)
     world, wanted = model.World(scenario, TABLES["large"]), meaning.steps()
     abouts, last, each_send = [], None, plan.get("moves", "each send drains") == "each send drains"
     for place, step in enumerate(scenario["step"]):
@@ -641,7 +707,7 @@ def played(scenario, table):
 def faulty(plan, table, ended):
     """The reason that a fault's line tells, and what is wrong with it, or None."""
     reasons = [*Meaning(plan).reasons()]
-    if TABLES[table] < 512 and hop_of(plan):
+    if TABLES[table] < 512 and is_paced(plan):
         reasons.append("copies are still on their way after ")
     line = ended.stderr
     reason = next((reason for reason in reasons if reason in line), None)
@@ -659,6 +725,8 @@ def comments(plan, scenario):
     most = max((bisect_left(moments, start + 800_000) - bisect_left(moments, start) for start in moments), default=0)
     counts = f"{len(scenario['node'])} nodes, {len(scenario['link'])} links, {len(moments)} sends, at most {most} in 800 ms"
     moves = f"hop_us = {hop_of(plan)}" if hop_of(plan) else plan.get("moves", "each send drains")
+    if moves == "wire":
+        moves = f"wire {plan.get('rate_mbps', 100)} Mbit/s, {plan.get('residence_us', 5)} us, {plan.get('switching', 'store')}"
     return f"# {plan['title']}\n# {counts}; copies: {moves}\n"
 
 
@@ -690,6 +758,7 @@ def one(seed, counts):
         wrong = told(plan, table, ended.stdout)
         counts["told"] += 1
         counts["by hops"] += hop_of(plan) is not None
+        counts["by wires"] += plan.get("moves") == "wire"
         if not wrong and seed % EACH == 0:
             wrong = swept(said, seed % 3 * 2000, random.Random(seed))
             counts["swept"] += 1

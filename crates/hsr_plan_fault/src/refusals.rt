@@ -44,6 +44,8 @@ fn idle(key: Key) -> &'static str {
     match key {
         Key::Hop =>
             "this changes nothing: copies move by hops where moves is \"hops\", and only there",
+        Key::Rate | Key::Residence | Key::Switching =>
+            "this changes nothing: copies move by wires where moves is \"wire\", and only there",
         Key::On => "this changes nothing: the node isn't off then; it goes off by an earlier event",
         Key::Appid | Key::ControlBlock | Key::Id | Key::DataSet =>
             "this changes nothing: only streams of type goose and sv have appid, control_block, id and data_set",

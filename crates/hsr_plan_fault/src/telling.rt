@@ -155,7 +155,7 @@ fn offset_of(source: Source<'_>, fault: &PlanFault) -> usize {
 fn keys_at(spot: Spot) -> &'static str {
     match spot {
         Spot::Top => {
-            "a plan has title, ring or rings, redbox, address, mode, capacity, life_ms, until_us, epoch, moves, hop_us, stream and event"
+            "a plan has title, ring or rings, redbox, address, mode, capacity, life_ms, until_us, epoch, moves, hop_us, rate_mbps, residence_us, switching, stream and event"
         }
         Spot::Stream(_) => {
             "a stream has from, to, for, type, size, vlan, priority, appid, control_block, id, data_set, start_us, every_us, grow, most_us, smp_rate, asdus, count and until_us"
@@ -177,9 +177,12 @@ fn values_of(key: Key) -> &'static str {
         Key::Life => "0 to 1073741824 milliseconds",
         Key::Until | Key::At => "0 to 1099511627776 microseconds",
         Key::Moves => {
-            "\"each send drains\", \"each moment drains\", or \"hops\" with hop_us from 1 to 1000000 microseconds"
+            "\"each send drains\", \"each moment drains\", \"hops\" with hop_us from 1 to 1000000 microseconds, or \"wire\""
         }
         Key::Hop => "1 to 1000000 microseconds",
+        Key::Rate => "1 to 100000 Mbit/s",
+        Key::Residence => "0 to 1000000 microseconds",
+        Key::Switching => "\"store\" or \"cut\"",
         Key::Stream | Key::Event =>
             "tables, each below a header of its own in two brackets, as [[stream]] or [[event]]",
         Key::From | Key::For => "a name, or a list of 1 to 4096 names",

@@ -108,8 +108,8 @@ misread outline m (Endless steps) known h = absurd cc
 -- a plan that isn't moved means nothing, or can't be moved
 pub unmoved_why : (capacity : ℕ) (plan : Plan) (trouble : Trouble) → IsKnown trouble → IsUnmoved capacity plan trouble → MeansNothing plan ⊎ IsImmovable capacity plan
 unmoved_why capacity plan (Faulty fault) known is = inl (fault, plan_fault fault fault.what (listed plan) known is)
-unmoved_why capacity plan (Endless limit) known is = inr (record { us = is.us; by_hops = is.by_hops; told = is.told; means = is.means; why = inl is.unmoved.1 })
-unmoved_why capacity plan Differs known is = inr (record { us = is.us; by_hops = is.by_hops; told = is.told; means = is.means; why = inr is.unmoved })
+unmoved_why capacity plan (Endless limit) known is = inr (record { transfer = is.transfer; at_transfer = is.at_transfer; told = is.told; means = is.means; why = inl is.unmoved.1 })
+unmoved_why capacity plan Differs known is = inr (record { transfer = is.transfer; at_transfer = is.at_transfer; told = is.told; means = is.means; why = inr is.unmoved })
 unmoved_why capacity plan (TooLong octets) known none = absurd none
 
 unmoved_so : (capacity : ℕ) (plan : Plan) (trouble : Trouble) → IsKnown trouble → IsUnmoved capacity plan trouble → HasNoScenario capacity plan

@@ -30,7 +30,7 @@ pub enum Trouble {
     TooLong(usize),
     /// Copies are still on their way after this number of steps.
     Endless(usize),
-    /// Copies can't be moved by hops, or the scenario's text doesn't say what the plan means.
+    /// Copies can't be moved by hops or wires, or the scenario's text doesn't say what the plan means.
     Differs,
 }
 
@@ -58,7 +58,7 @@ fn trouble_of(unmoved: Unmoved) -> Trouble
 }
 
 /// What a plan means in a world with tables of `C` entries, once its copies move. `Plan` has the first fault of the plan, and `Endless` and
-/// `Differs` come only where its copies move by hops, as `moved_meaning_of` says.
+/// `Differs` come only where its copies move by hops or wires, as `moved_meaning_of` says.
 pub fn moved<const C: usize>(alloc: Global, plan: &Plan) -> Result<Meaning, Trouble>
     requires { IsTableSize C }
     ensures means { IfOk result (MeansMoved C plan.now) }

@@ -8,7 +8,7 @@ ghost use Rattle.std.specs.Fmt.{decimal};
 ghost use Rattle.std.specs.List.{flat_map};
 ghost use Rattle.hex.specs.Hex.{encode_upper};
 ghost use Rattle.hsr_frame.specs.Grammar.{pair};
-ghost use Rattle.hsr_plan_scenario.specs.Spelled.{about_text, at_link, at_node, at_port, clock_text, comma, counts_text, crowd_text, digits_text, dir_text, does_text, frame_text, from_text, front_text, letter_or, link_line, link_lines, links_text, listed, mac_text, mode_text, moves_text, name_of, name_text, node_line, nodes_text, octets_text, order_line, order_lines, order_text, place_text, port_text, ring_place_text, role_text, room_text, scenario_text, sends_text, sizes_text, station_text, stations_text, step_text, stream_text, summary_text, title_text, vlan_text};
+ghost use Rattle.hsr_plan_scenario.specs.Spelled.{about_text, at_link, at_node, at_port, clock_text, comma, counts_text, crowd_text, digits_text, dir_text, does_text, frame_text, from_text, front_text, letter_or, link_line, link_lines, links_text, listed, mac_text, mode_text, moves_text, name_of, name_text, node_line, nodes_text, octets_text, order_line, order_lines, order_text, place_text, port_text, ring_place_text, role_text, room_text, scenario_text, sends_text, sizes_text, station_text, stations_text, step_text, stream_text, summary_text, switching_text, title_text, transfer_text, vlan_text, wire_text};
 
 use crate::sends::{next_stream, send_moments, sends_behind};
 use hsr_frame::{About, Mac, Mode, NoMemory};
@@ -16,7 +16,7 @@ use hsr_link::Dir;
 use hsr_node::Place;
 use hsr_plan_network::Node;
 use hsr_plan_schedule::Meaning;
-use hsr_plan_text::{Moves, Outline, Word};
+use hsr_plan_text::{Moves, Outline, Transfer, Switching, Wire, Word};
 use hsr_scenario::Order;
 use hsr_table_demand::most_of;
 use hsr_text::{put, put_hex, put_number, put_octets};
@@ -587,6 +587,42 @@ fn put_title(text: &mut Vec<u8>, title: &Option<String>) -> Result<(), NoMemory>
     }
 }
 
+/// Puts when nodes judge what comes by wires last.
+fn put_switching(text: &mut Vec<u8>, switching: Switching) -> Result<(), NoMemory>
+    ensures { OnOk result (text.new.items ≡ text.old.items ++ switching_text switching) }
+{
+    match switching {
+        Switching::Store => put(text, "store"),
+        Switching::Cut => put(text, "cut"),
+    }
+}
+
+/// Puts wires last.
+#[tactic(auto, unfolding(crate::specs::Spelled::wire_text))]
+fn put_wire(text: &mut Vec<u8>, wire: Wire) -> Result<(), NoMemory>
+    ensures { OnOk result (text.new.items ≡ text.old.items ++ wire_text wire) }
+{
+    put(text, "wire ")?;
+    put_number(text, wire.rate)?;
+    put(text, " Mbit/s, ")?;
+    put_number(text, wire.residence)?;
+    put(text, " us, ")?;
+    put_switching(text, wire.switching)
+}
+
+/// Puts how long copies take last.
+fn put_pace(text: &mut Vec<u8>, transfer: Transfer) -> Result<(), NoMemory>
+    ensures { OnOk result (text.new.items ≡ text.old.items ++ transfer_text transfer) }
+{
+    match transfer {
+        Transfer::Hop(us) => {
+            put(text, "hop_us = ")?;
+            put_number(text, us)
+        }
+        Transfer::Wire(wire) => put_wire(text, wire),
+    }
+}
+
 /// Puts how copies move last.
 fn put_moves(text: &mut Vec<u8>, moves: Moves) -> Result<(), NoMemory>
     ensures { OnOk result (text.new.items ≡ text.old.items ++ moves_text moves) }
@@ -594,10 +630,7 @@ fn put_moves(text: &mut Vec<u8>, moves: Moves) -> Result<(), NoMemory>
     match moves {
         Moves::EachSendDrains => put(text, "each send drains"),
         Moves::EachMomentDrains => put(text, "each moment drains"),
-        Moves::Hop(us) => {
-            put(text, "hop_us = ")?;
-            put_number(text, us)
-        }
+        Moves::Timed(transfer) => put_pace(text, transfer),
     }
 }
 

@@ -8,15 +8,18 @@ use Rattle.hsr_world_steps.specs.declared.step.Step.TheVariants.{Clock, Send, Su
 use Rattle.hsr_scenario.specs.declared.steps.Order.{Order}
 use Rattle.hsr_scenario.specs.declared.steps.Order.TheVariants.{Step, Drain}
 use Rattle.hsr_plan_text.specs.declared.plan.Moves.{Moves}
-use Rattle.hsr_plan_text.specs.declared.plan.Moves.TheVariants.{EachSendDrains, EachMomentDrains, Hop}
+use Rattle.hsr_plan_text.specs.declared.plan.Moves.TheVariants.{EachSendDrains, EachMomentDrains, Timed}
+use Rattle.hsr_plan_text.specs.declared.plan.Transfer.TheVariants.{Hop, Wire}
 
 -- ---- what is under way
 
--- by hops a copy takes a hop for each direction of each link at most, in microseconds; else a drain ends its way
+-- by hops a copy takes a hop for each direction of each link at most, in microseconds; on wires it may wait for as long as there is room; else
+-- a drain ends its way
 abbrev pub age_limit : Moves → ℕ → Option ℕ
 age_limit EachSendDrains links = None
 age_limit EachMomentDrains links = None
-age_limit (Hop us) links = Some (us * (2 * links))
+age_limit (Timed (Hop us)) links = Some (us * (2 * links))
+age_limit (Timed (Wire wire)) links = None
 
 -- a send of a moment isn't older than that
 abbrev pub is_young : ℕ → ℕ → ℕ → Bool

@@ -5,7 +5,7 @@ ghost use Rattle.std.specs.Prelude.{◌≡◌, [], IfOk, OnOk, drop, length};
 ghost use Rattle.hsr_plan_schedule.specs.Room.{age_limit, is_young, moment_behind, most_open, open_behind, room, still_open, young};
 
 use hsr_frame::NoMemory;
-use hsr_plan_text::Moves;
+use hsr_plan_text::{Moves, Transfer};
 use hsr_scenario::Order;
 use hsr_topology::End;
 use hsr_world_steps::Step;
@@ -29,8 +29,8 @@ pub(crate) fn age_limit(moves: Moves, links: &[[End; 2]]) -> Result<Option<u64>,
     ensures { IfOk result (λ limit. limit ≡ age_limit moves (length links.now)) }
 {
     match moves {
-        Moves::EachSendDrains | Moves::EachMomentDrains => Ok(None),
-        Moves::Hop(us) => {
+        Moves::EachSendDrains | Moves::EachMomentDrains | Moves::Timed(Transfer::Wire(_)) => Ok(None),
+        Moves::Timed(Transfer::Hop(us)) => {
             // no plan that is read comes near these
             if us > HOP_LIMIT || links.len() > LINK_LIMIT {
                 return Err(NoMemory);

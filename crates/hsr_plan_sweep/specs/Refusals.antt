@@ -44,7 +44,7 @@ IsKnown (Unplanned trouble) = plans.IsKnown trouble
 IsKnown (Run fault) = ⊤
 IsKnown Memory = ⊥
 
--- it means nothing; or what it means can't be moved by hops; or what it means leads to no finished run
+-- it means nothing; or what it means can't be moved by hops or wires; or what it means leads to no finished run
 pub record IsUncounted (plan : Plan) : Type 0 where
   pub why : MeansNothing plan ⊎ (IsImmovable 512 plan ⊎ ((m : Meaning) × MeansMoved 512 plan m × HasNoRun m))
 

@@ -27,6 +27,11 @@ pub enum Key {
     Moves,
     /// Written `hop_us`.
     Hop,
+    /// Written `rate_mbps`.
+    Rate,
+    /// Written `residence_us`.
+    Residence,
+    Switching,
     Stream,
     Event,
     From,
@@ -108,6 +113,9 @@ impl Key {
             Key::Epoch => "epoch",
             Key::Moves => "moves",
             Key::Hop => "hop_us",
+            Key::Rate => "rate_mbps",
+            Key::Residence => "residence_us",
+            Key::Switching => "switching",
             Key::Stream => "stream",
             Key::Event => "event",
             Key::From => "from",

@@ -66,6 +66,32 @@ impl Model for Network {
     ghost view = { λ n. record { rings = n.rings.items; redboxes = n.redboxes.items; addresses = n.addresses.items; modes = n.modes.items } };
 }
 
+/// When a node judges what comes by a wire.
+#[derive(Clone, Copy, Debug, PartialEq, Eq)]
+pub enum Switching {
+    /// Once a frame is there as a whole.
+    Store,
+    /// Once its first 22 octets are there, where the way on is free, else as `Store`.
+    Cut,
+}
+
+/// The wires of a plan: how many Mbit/s they carry, how many microseconds a node keeps a frame, and when it judges it.
+#[derive(Clone, Copy, Debug, PartialEq, Eq)]
+pub struct Wire {
+    pub rate: u64,
+    pub residence: u64,
+    pub switching: Switching,
+}
+
+/// How long copies take from node to node.
+#[derive(Clone, Copy, Debug, PartialEq, Eq)]
+pub enum Transfer {
+    /// Each is taken and judged this number of microseconds after it was put.
+    Hop(u64),
+    /// In each direction of a link one frame goes at a time.
+    Wire(Wire),
+}
+
 /// How copies move.
 #[derive(Clone, Copy, Debug, PartialEq, Eq)]
 pub enum Moves {
@@ -73,8 +99,8 @@ pub enum Moves {
     EachSendDrains,
     /// All are at their end before the next moment.
     EachMomentDrains,
-    /// Each is put on its link at once, and taken and judged this number of microseconds later.
-    Hop(u64),
+    /// Each is put on its link at once, and taken and judged so much later.
+    Timed(Transfer),
 }
 
 /// Whom a stream is for.

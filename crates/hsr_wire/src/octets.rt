@@ -1,7 +1,7 @@
 //! How many octets of a link a frame takes.
 ghost use Rattle.std.specs.Prelude.{◌≡◌, length, max};
 ghost use Rattle.hsr_tag.specs.Seen.{classified};
-ghost use Rattle.hsr_load.specs.Wire.{is_tagged, least_octets, wire_octets};
+ghost use Rattle.hsr_wire.specs.Octets.{is_tagged, least_octets, wire_octets};
 
 use hsr_tag::{EitherView, look_at};
 
@@ -48,7 +48,7 @@ fn padded_octets(octets: &[u8]) -> u64
 }
 
 /// How many octets of a link a frame takes.
-pub(crate) fn wire_octets(octets: &[u8]) -> u64
+pub fn wire_octets(octets: &[u8]) -> u64
     ensures { result ≡ wire_octets octets.now }
 {
     // Frames stand here as they were sent, and a node pads them where they are short.
