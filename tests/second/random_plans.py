@@ -11,7 +11,6 @@ is none: the reason, or one of those, that this script finds by itself.
 
 What is excused:
 - Of a fault's line only the reason is compared, not line and column; where a plan has several reasons, the line may tell any of them.
-- Of a payload of type "goose" or "sv" nothing is compared.
 - In which order copies are put, taken and judged at one moment is compared with no other reading: model.py plays the steps as they stand.
 - A sweep is compared where it ends. Its line on a terminal isn't looked at.
 - With tables of fewer than 512 entries, which may forget, the bench may end a run as unsettled.
@@ -28,12 +27,12 @@ from bisect import bisect_left
 from collections import Counter
 
 import model
+import published
 
 PLANNER = BENCH = None
 EACH = 20  # each 20th plan is swept
 GROUP = "01-0C-CD-01-00-01"
 TYPES = {"goose": 0x88B8, "sv": 0x88BA}
-SHORTEST = {"goose": lambda name: 75 + 3 * len(name), "sv": lambda name: 98 + len(name)}  # octets of a sender's first frame, for names to 20 octets
 ENDLESS = 1 << 41
 KINDS = {"goose": "goose", "sv": "sv"}  # how the names of their streams begin; those of streams under a number with `other`
 TABLES = model.SIZE_WORDS
@@ -57,16 +56,29 @@ def stream_of(chance, senders, targets):
     said["to"] = chance.choice([GROUP, GROUP, chance.choice(targets)])
     said["type"] = chance.choice(["goose", "sv", 0x88B5, 0x0800])
     said["every_us"] = chance.choice([100, 250, 1000, 3000])
-    for key, values in (("size", [0, 4, 46, 120, 140]), ("vlan", [0, 10, 4095]), ("priority", [0, 4, 7]), ("grow", [1, 2, 3]), ("most_us", [50, 1000, 4000])):
+    for key, values in (("size", [0, 4, 46, 120, 140, 200, 400]), ("vlan", [0, 10, 4095]), ("priority", [0, 4, 7]), ("grow", [1, 2, 3]), ("most_us", [50, 1000, 4000])):
         if chance.random() < 0.3:
             said[key] = chance.choice(values)
     if chance.random() < 0.5:
         said["start_us"] = chance.choice([chance.randint(0, 5000), sorted(chance.randint(0, 9000) for _ in range(chance.randint(1, 3)))])
     if chance.random() < 0.5:
         said["count"] = chance.randint(1, 6)
+    said |= naming_of(chance, said["type"])
+    if said["type"] == "sv" and chance.random() < 0.4:
+        said |= {"smp_rate": chance.choice([4000, 4800, 12800, 14400])}
+        for key in ("every_us", "grow", "most_us"):
+            chance.random() < 0.99 and said.pop(key, None)
     if chance.random() < 0.03:
         said |= chance.choice([{"start_us": []}, {"start_us": [3, 2]}, {"count": 0}, {"from": []}])
     return said
+
+
+def naming_of(chance, kind):
+    """Names and numbers of a stream; few where they say nothing."""
+    keys = {"appid": [0, 1, 2, 3, 0x3FFF, 0x4000, 0x4001, 65535], "control_block": ["gcb2", "Trip_1"], "id": ["Trip", "a/b$c." + "x" * 59], "data_set": ["ds_2", "D" * 32]}
+    keys |= {"asdus": [1, 2, 3, 8], "smp_rate": [4000]}
+    may = [] if kind not in TYPES else ["appid", "control_block", "id", "data_set", "asdus"] if kind == "sv" else ["appid", "control_block", "id", "data_set"]
+    return {key: chance.choice(keys[key]) for key in keys if chance.random() < (0.25 if key in may else 0.005)}
 
 
 def event_of(chance, rings, redboxes):
@@ -111,6 +123,8 @@ def random_plan(chance):
     said |= {"ring": rings[0]} if len(rings) == 1 else {}
     said["life_ms"] = chance.choice([0, 1, 1, 2, 5])
     if chance.random() < 0.3:
+        said["epoch"] = chance.choice([1, 1767225600, 4294967295])
+    if chance.random() < 0.3:
         said["capacity"] = chance.choice([1, 2, 5])
     said["streams"] = [stream_of(chance, senders, senders) for _ in range(chance.randint(0, 3))] if senders else []
     said["events"] = events_of(chance, rings, redboxes, said["until_us"])
@@ -118,7 +132,7 @@ def random_plan(chance):
         if chance.random() < 0.95:  # most starts come in time
             starts = stream.get("start_us", 0)
             stream["start_us"] = [at for at in dict.fromkeys(starts) if at < said["until_us"]] or 0 if isinstance(starts, list) else min(starts, said["until_us"] - 1)
-        if stream["type"] in SHORTEST and stream.get("size", 1500) < 120 and chance.random() < 0.95:  # most sizes are enough
+        if stream["type"] in TYPES and stream.get("size", 1500) < 120 and chance.random() < 0.95:  # most sizes are enough
             del stream["size"]
     said["tables"] = {"redbox": redboxes} if redboxes else {}
     if len(rings) > 1:
@@ -171,6 +185,7 @@ class Meaning:
         self.first = {name: next(k for k, ring in enumerate(self.rings) if name in ring) for name in self.names}
         self.couplers = {name for name in self.names if sum(name in ring for ring in self.rings) == 2}
         self.until = plan.get("until_us")
+        self.published = list(published.published(plan))
 
     def mac(self, name):
         if name in self.names:
@@ -196,6 +211,7 @@ class Meaning:
         yield from (f"the address of {name} is another's:" for name in given if any(other != name and self.mac(other) == given[name] for other in known))
         yield from self.reasons_of_moves()
         yield from self.reasons_of_events()
+        yield from published.reasons(self.plan) if all(stream["from"] and self.starts(stream) and self.is_paced(stream) for stream in self.plan.get("stream", [])) else ()
         for stream in self.plan.get("stream", []):
             target = stream["to"]
             yield from (f"unknown name {name}:" for name in [*self.senders(stream), target] if name not in [*known, *self.couplers, GROUP])
@@ -214,10 +230,18 @@ class Meaning:
         end = min(end for end in (self.until, stream.get("until_us"), ENDLESS) if end is not None)
         if any(start >= end for start in starts):
             yield "a start at or behind the end:"
-        if stream["type"] in SHORTEST and stream.get("size", 1500) == 0:
+        if stream["type"] in TYPES and stream.get("size", 1500) == 0:
             yield "bad value of size:"
-        elif stream["type"] in SHORTEST and any(SHORTEST[stream["type"]](name) > stream.get("size", 1500) for name in self.senders(stream)):
-            yield "a size below the shortest payload of this type:"
+        if any(key in stream for key in ("appid", "control_block", "id", "data_set") if stream["type"] not in TYPES):
+            yield "this changes nothing:"
+        if any(key in stream for key in ("smp_rate", "asdus") if stream["type"] != "sv"):
+            yield "this changes nothing:"
+        elif "smp_rate" in stream:
+            yield from (f"{key} beside smp_rate:" for key in ("every_us", "grow", "most_us") if key in stream)
+
+    def is_paced(self, stream):
+        """Whether one thing tells the stream's moments."""
+        return ("smp_rate" in stream) != ("every_us" in stream)
 
     def reasons_of_moves(self):
         """Why it isn't told how copies move: `hop_us` stands beside "hops", and there alone."""
@@ -255,31 +279,44 @@ class Meaning:
         ends = [end for end in (self.until, stream.get("until_us")) if end is not None]
         for state, start in enumerate(starts):
             until = min(ends + starts[state + 1 : state + 2] or [ENDLESS])
+            if "smp_rate" in stream:
+                yield from self.samples(stream, state, start, until)
+                continue
             most = stream.get("most_us", 1 << 40)
             at, gap, count = start, min(stream["every_us"], most), 0
             while at < until and count < stream.get("count", ENDLESS):
                 yield at, state, count
                 at, gap, count = at + gap, min(gap * stream.get("grow", 1), most), count + 1
 
+    def samples(self, stream, state, start, until):
+        for count in range(stream.get("count", ENDLESS)):
+            rate, samples = stream["smp_rate"], count * stream.get("asdus", 1)
+            at = start + (2 * samples * 1000000 + rate) // (2 * rate)  # half a microsecond is rounded up
+            if at >= until:
+                return
+            yield at, state, count
+
     def streams(self):
-        """The plan's streams, each with its name: its kind, and its number among those of its kind, from 1."""
+        """The plan's streams, each with its name, its kind and its number among those of its kind, from 1; and with what it publishes."""
         seen = Counter()
-        for stream in self.plan.get("stream", []):
+        for stream, one in zip(self.plan.get("stream", []), self.published):
             kind = KINDS.get(stream["type"], "other")
             seen[kind] += 1
-            yield f"{kind}{seen[kind]}", stream
+            yield f"{kind}{seen[kind]}", stream, one
 
-    def send(self, stream, title, name, count):
+    def send(self, stream, title, one, name, state, count):
         behind = self.behind(name)
         kind = TYPES.get(stream["type"], stream["type"])
         said = {"do": "send", "node": f"{behind}-sans" if behind else name, "to": stream["to"], "type": kind, "stream": title}
         if behind and self.redboxes[behind].index(name):
             said["from"] = self.redboxes[behind].index(name)
-        if "vlan" in stream or "priority" in stream:
-            said["vlan"] = stream.get("priority", 0) * 8192 + stream.get("vlan", 0)
+        if "vlan" in stream or "priority" in stream or stream["type"] in TYPES:
+            said["vlan"] = stream.get("priority", 4 if stream["type"] in TYPES else 0) * 8192 + stream.get("vlan", 0)
         said["to"] = stream["to"] if "-" in stream["to"] and len(stream["to"]) == 17 and stream["to"][2] == "-" else self.mac(stream["to"])
         if isinstance(stream["type"], int):
             said["payload"] = (count.to_bytes(4, "big") + bytes(1500))[: stream.get("size", 46)]
+        else:
+            said["payload"] = one.payload(name, state, count)
         return said
 
     def occasions(self):
@@ -288,8 +325,8 @@ class Meaning:
         life = self.plan.get("life_ms", 2000) * 1000
         lives = [name for name in self.names if name not in self.couplers]
         listed += [(at, {"do": "life", "node": name}) for at in (range(0, self.until, life) if life else ()) for name in lives]
-        for title, stream in self.streams():
-            listed += [(at, self.send(stream, title, name, count)) for name in self.senders(stream) for at, _, count in self.moments(stream)]
+        for title, stream, one in self.streams():
+            listed += [(at, self.send(stream, title, one, name, state, count)) for name in self.senders(stream) for at, state, count in self.moments(stream)]
         return sorted(listed, key=lambda occasion: occasion[0])
 
     def steps(self):

@@ -31,8 +31,8 @@ each_listed os k d below = λ origin at about. record { index = k; occasion = ge
 told_sends : (plan : Plan) (all : Listed) (orders : List Order) (streams : List ℕ) → Orders plan all orders streams → OfSends (IsListed all.occasions) 0 streams orders
 told_sends plan all orders streams (os, in_order, first, second) =
     let P : Origin → Type 0 = IsListed all.occasions in
-    let led = told_led P (setting plan all.wired) os (All-permutation (Covers P) all.occasions os in_order.same (each_listed all.occasions)) in
-    let Q : List Order → Type 0 = λ v. OfSends P 0 (told_of (setting plan all.wired) os).sends v in
+    let led = told_led P (setting plan all.wired all.publications) os (All-permutation (Covers P) all.occasions os in_order.same (each_listed all.occasions)) in
+    let Q : List Order → Type 0 = λ v. OfSends P 0 (told_of (setting plan all.wired all.publications) os).sends v in
     let R : List ℕ → Type 0 = λ v. OfSends P 0 v orders in
     subst R (sym second) (subst Q (sym first) led.1.each)
 

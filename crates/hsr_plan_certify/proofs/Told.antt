@@ -13,7 +13,7 @@ use Rattle.hsr_plan_text.specs.Plan.{Stream}
 use Rattle.hsr_plan_text.specs.declared.plan.Moves.{Moves}
 use Rattle.hsr_plan_text.specs.declared.plan.Moves.TheVariants.{EachSendDrains, EachMomentDrains, Hop}
 use Rattle.hsr_plan_schedule.specs.Hearing.{Heard, heard_on, interlink_to, knows, macs_behind}
-use Rattle.hsr_plan_schedule.specs.Orders.{Told, change, changed, changes, clocked, comes, downs, drain, drained, flag, from_stream, happens, hear, hear_by, hear_on, is_to_speak, live, name_if, named_send, send_if, sending, set, speak, speak_of, start, tell_all, tell_occasion, told_of, type_of}
+use Rattle.hsr_plan_schedule.specs.Orders.{Told, change, changed, changes, clocked, comes, downs, drain, drained, flag, from_stream, happens, hear, hear_by, hear_on, is_to_speak, live, named_send, send_if, sending, set, speak, speak_of, start, tell_all, tell_occasion, told_of, type_of}
 use Rattle.hsr_plan_schedule.specs.Setting.{Setting}
 use Rattle.hsr_plan_schedule.specs.declared.occasion.Happening.{Happening}
 use Rattle.hsr_plan_schedule.specs.declared.occasion.Happening.TheVariants as happening
@@ -112,7 +112,7 @@ module _ (P : Origin → Type 0) where
   led_send at g (Some stream) sent told holds led =
       let heard : Told = hear g sent.sender told in
       let before : Led at heard = led_hear at g sent.sender told led in
-      led_sending at g.moves (named_send stream sent (name_if (slice_get stream.from sent.index))) (from_stream sent.stream heard)
+      led_sending at g.moves (named_send g stream sent) (from_stream sent.stream heard)
       (led_frame P at sent.sender.node sent.sender.from sent.stream sent.dst stream.framing.tag (type_of stream.framing.kind) _ heard.sends heard.orders holds before.0, before.1)
 
   -- ---- links

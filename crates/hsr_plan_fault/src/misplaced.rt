@@ -10,11 +10,12 @@ pub(crate) struct Misplaced {
 }
 
 /// The keys that stand at the top of a plan, and are no tables.
-const TOP_KEYS: [Key; 6] = [
+const TOP_KEYS: [Key; 7] = [
     Key::Title,
     Key::Capacity,
     Key::Life,
     Key::Until,
+    Key::Epoch,
     Key::Moves,
     Key::Hop,
 ];

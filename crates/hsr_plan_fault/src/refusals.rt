@@ -45,6 +45,10 @@ fn idle(key: Key) -> &'static str {
         Key::Hop =>
             "this changes nothing: copies move by hops where moves is \"hops\", and only there",
         Key::On => "this changes nothing: the node isn't off then; it goes off by an earlier event",
+        Key::Appid | Key::ControlBlock | Key::Id | Key::DataSet =>
+            "this changes nothing: only streams of type goose and sv have appid, control_block, id and data_set",
+        Key::SampleRate | Key::Asdus =>
+            "this changes nothing: only streams of type sv have smp_rate and asdus",
         _ => "this changes nothing: the link isn't cut then; it is cut by an earlier event",
     }
 }
@@ -57,6 +61,37 @@ fn put_size(line: &mut Vec<u8>, least: usize) -> Result<(), NoMemory> {
         line,
         " octets or more for this sender, or no size for the shortest",
     )
+}
+
+/// Puts how long the shortest payload is last, where no frame takes it.
+fn put_length(line: &mut Vec<u8>, least: usize) -> Result<(), NoMemory> {
+    put(line, "a payload of ")?;
+    put_decimal(line, least as u64)?;
+    put(
+        line,
+        " octets at least for this sender, and a frame takes 1500: fewer asdus, or shorter names",
+    )
+}
+
+/// Puts which keys may not stand together last.
+fn put_together(line: &mut Vec<u8>, key: Key) -> Result<(), NoMemory> {
+    match key {
+        Key::Hop => put(
+            line,
+            "hop_us in moves and beside it: one of both; beside it moves is \"hops\"",
+        ),
+        Key::Every | Key::Grow | Key::Most => {
+            put(line, key.text())?;
+            put(
+                line,
+                " beside smp_rate: one of both; smp_rate tells the moments of samples",
+            )
+        }
+        _ => put(
+            line,
+            "ring and rings together: one of both; rings has each ring by a name of its own",
+        ),
+    }
 }
 
 /// Puts why nobody is meant by a name last.
@@ -126,14 +161,12 @@ pub(crate) fn put_refusal(line: &mut Vec<u8>, refusal: &Refusal) -> Result<(), N
         Refusal::TooLate(key) => put(line, late(*key)),
         Refusal::TooSmall(least) => put_size(line, *least),
         Refusal::Idle(key) => put(line, idle(*key)),
-        Refusal::Together(Key::Hop) => put(
+        Refusal::TooLong(least) => put_length(line, *least),
+        Refusal::AppidTaken => put(
             line,
-            "hop_us in moves and beside it: one of both; beside it moves is \"hops\"",
+            "the APPID is another's: each sender of goose and sv has its own, to 65535; without appid 1 to 16383 for goose, 16384 to 32767 for sv",
         ),
-        Refusal::Together(_) => put(
-            line,
-            "ring and rings together: one of both; rings has each ring by a name of its own",
-        ),
+        Refusal::Together(key) => put_together(line, *key),
         Refusal::Topology => put(line, "no network"),
         _ => put_name(line, refusal),
     }

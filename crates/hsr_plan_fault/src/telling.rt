@@ -93,6 +93,8 @@ fn refused_at(source: Source<'_>, spot: Spot, start: usize, refusal: &Refusal) -
         Refusal::ToItself(word) => name_of(source, &[Key::From], word.as_bytes(), start),
         Refusal::TooMany(Key::Ring) => rings_at(source),
         Refusal::TooSmall(_) => key_of(source, spot, start, b"size"),
+        Refusal::TooLong(_) => key_of(source, spot, start, b"asdus"),
+        Refusal::AppidTaken => key_of(source, spot, start, b"appid"),
         Refusal::Nobody(key)
         | Refusal::NoLink(key)
         | Refusal::Endless(key)
@@ -152,10 +154,10 @@ fn offset_of(source: Source<'_>, fault: &PlanFault) -> usize {
 fn keys_at(spot: Spot) -> &'static str {
     match spot {
         Spot::Top => {
-            "a plan has title, ring or rings, redbox, address, mode, capacity, life_ms, until_us, moves, hop_us, stream and event"
+            "a plan has title, ring or rings, redbox, address, mode, capacity, life_ms, until_us, epoch, moves, hop_us, stream and event"
         }
         Spot::Stream(_) => {
-            "a stream has from, to, type, size, vlan, priority, start_us, every_us, grow, most_us, count and until_us"
+            "a stream has from, to, type, size, vlan, priority, appid, control_block, id, data_set, start_us, every_us, grow, most_us, smp_rate, asdus, count and until_us"
         }
         Spot::Event(_) => "an event has at_us and one of cut, mend, off and on",
     }
@@ -185,6 +187,12 @@ fn values_of(key: Key) -> &'static str {
         Key::Size => "0 to 1500 octets, but not 0 of goose and sv",
         Key::Vlan => "0 to 4095",
         Key::Priority => "0 to 7",
+        Key::Epoch => "0 to 4294967295 seconds since 1970",
+        Key::Appid => "0 to 65535",
+        Key::ControlBlock | Key::DataSet => "1 to 32 letters, digits and low lines",
+        Key::Id => "1 to 65 visible characters",
+        Key::SampleRate => "4000, 4800, 12800 or 14400 samples a second",
+        Key::Asdus => "1 to 8 samples a frame",
         Key::Start =>
             "a moment to 1099511627776 microseconds, or a list of them, each later than the one before",
         Key::Every | Key::Most => "1 to 1099511627776 microseconds",

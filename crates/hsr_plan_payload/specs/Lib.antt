@@ -1,2 +1,3 @@
 pub mod Ber
+pub mod Publishing
 pub mod Payload

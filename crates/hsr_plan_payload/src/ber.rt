@@ -1,6 +1,6 @@
 //! Values with tags and lengths, and numbers in big endian.
 ghost use Rattle.std.specs.Prelude.{◌≡◌, ◌≤◌, ◌<◌, ◌^◌, ◌++◌, ◌∷◌, [], length, replicate, IfOk, OnOk};
-ghost use Rattle.hsr_plan_payload.specs.Ber.{four, integer, length_octets, pair, tagged};
+ghost use Rattle.hsr_plan_payload.specs.Ber.{four, integer, length_octets, pair, tagged, three};
 
 use hsr_frame::NoMemory;
 use std::alloc::Global;
@@ -12,6 +12,14 @@ pub(crate) fn put_pair(out: &mut Vec<u8>, number: usize) -> Result<(), NoMemory>
     out.push((number / 256 % 256) as u8)?;
     out.push((number % 256) as u8)?;
     Ok(())
+}
+
+/// Puts the last three octets of a number behind others.
+pub(crate) fn put_three(out: &mut Vec<u8>, number: usize) -> Result<(), NoMemory>
+    ensures { OnOk result (out.new.items ≡ out.old.items ++ three number) }
+{
+    out.push((number / 65536 % 256) as u8)?;
+    put_pair(out, number)
 }
 
 /// Puts the last four octets of a number behind others.
@@ -60,7 +68,7 @@ pub(crate) fn put_tagged(out: &mut Vec<u8>, tag: u8, value: &[u8]) -> Result<(),
     Ok(())
 }
 
-/// An integer, 0 or more, as the value of a field.
+/// An integer, from 0 to 2^32 - 1, as the value of a field.
 #[tactic(auto, unfolding(crate::specs::Ber::integer))]
 pub(crate) fn integer(alloc: Global, number: usize) -> Result<Vec<u8>, NoMemory>
     ensures { IfOk result (λ v. v.items ≡ integer number) }
@@ -72,10 +80,39 @@ pub(crate) fn integer(alloc: Global, number: usize) -> Result<Vec<u8>, NoMemory>
     } else if number < 32768 {
         put_pair(&mut value, number)?;
     } else if number < 8_388_608 {
-        value.push((number / 65536 % 256) as u8)?;
-        put_pair(&mut value, number)?;
+        put_three(&mut value, number)?;
+    } else if number < 2_147_483_648 {
+        put_four(&mut value, number)?;
     } else {
+        value.push(0)?;
         put_four(&mut value, number)?;
     }
     Ok(value)
+}
+
+/// Puts a field that is an integer behind others.
+pub(crate) fn put_integer(
+    alloc: Global,
+    out: &mut Vec<u8>,
+    tag: u8,
+    number: usize,
+) -> Result<(), NoMemory>
+    ensures { OnOk result (out.new.items ≡ out.old.items ++ tagged tag (integer number)) }
+{
+    let value = integer(alloc, number)?;
+    put_tagged(out, tag, value.as_slice())
+}
+
+/// Puts a field of zeros behind others.
+pub(crate) fn put_tagged_zeros(
+    alloc: Global,
+    out: &mut Vec<u8>,
+    tag: u8,
+    count: usize,
+) -> Result<(), NoMemory>
+    ensures { OnOk result (out.new.items ≡ out.old.items ++ tagged tag (replicate count 0)) }
+{
+    let mut value = Vec::new(alloc);
+    put_zeros(&mut value, count)?;
+    put_tagged(out, tag, value.as_slice())
 }

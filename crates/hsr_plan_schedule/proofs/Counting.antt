@@ -1,9 +1,9 @@
 -- Frames that are counted before they are listed.
-use Rattle.std.proofs.Common.{◌≡◌, ℕ, suc, ◌+◌, ◌-◌, ◌*◌, ◌<◌, ◌≤◌, ◌∙◌, false, true, min, nat_le, length, get_or, slice_get, drop, List, [], Some, None, refl, ap, sym, ⊎_elim, arith, length-append}
+use Rattle.std.proofs.Common.{◌≡◌, ℕ, suc, ◌+◌, ◌-◌, ◌<◌, ◌≤◌, ◌∙◌, false, true, min, nat_le, length, get_or, slice_get, drop, List, [], Some, None, refl, ap, sym, ⊎_elim, arith, length-append}
 use Rattle.std.proofs.lemmas.List.{drop_all}
 use Rattle.std.proofs.lemmas.Bool.Decides.{leb_tells, nat_tests}
 use Rattle.hsr_plan_text.specs.Plan.{Timing}
-use Rattle.hsr_plan_schedule.specs.Moments.{left, most_sent, next_end, run, runs, sent_by}
+use Rattle.hsr_plan_schedule.specs.Moments.{left, moment, next_end, next_gap, run, run_from, runs, sent_by}
 use Rattle.hsr_plan_schedule.proofs.Running.{first}
 use Rattle.hsr_plan_schedule.proofs.Running as listed
 use Rattle.hsr_plan_schedule.specs.declared.occasion.Sender.{Sender}
@@ -69,34 +69,34 @@ one_more k n = omega arith
 
 -- ---- frames from one start on
 
-pub run_step : (most k at gap : ℕ) (timing : Timing) (until : ℕ) (sent : Sent) (later longer bound : ℕ) → k < most → at < until → until ≤ bound
-    → later ≡ min (at + gap) bound → longer ≡ min (gap * timing.grow) timing.most
-    → k + length (run (most - k) k at gap timing until sent) ≡ (k + 1) + length (run (most - (k + 1)) (k + 1) later longer timing until sent)
-run_step most k at gap timing until sent later longer bound h now within e f =
-    ap (λ xs. k + length xs) (listed.run_step [] most k at gap timing until sent later longer bound h now within e f)
-    ∙ one_more k (length (run (most - (k + 1)) (k + 1) later longer timing until sent))
+pub run_step : (most k start at gap : ℕ) (timing : Timing) (until : ℕ) (sent : Sent) (later longer bound : ℕ) → k < most → at < until → until ≤ bound
+    → later ≡ min (moment timing timing.pace start (k + 1) at gap) bound → longer ≡ next_gap timing.pace gap
+    → k + length (run (most - k) k start at gap timing until sent) ≡ (k + 1) + length (run (most - (k + 1)) (k + 1) start later longer timing until sent)
+run_step most k start at gap timing until sent later longer bound h now within e f =
+    ap (λ xs. k + length xs) (listed.run_step [] most k start at gap timing until sent later longer bound h now within e f)
+    ∙ one_more k (length (run (most - (k + 1)) (k + 1) start later longer timing until sent))
 
-pub run_stop : (n k at gap : ℕ) (timing : Timing) (until : ℕ) (sent : Sent) → until ≤ at → k + length (run n k at gap timing until sent) ≡ k
-run_stop n k at gap timing until sent h = ap (λ xs. k + length xs) (listed.run_stop [] n k at gap timing until sent h) ∙ nothing_more k
+pub run_stop : (n k start at gap : ℕ) (timing : Timing) (until : ℕ) (sent : Sent) → until ≤ at → k + length (run n k start at gap timing until sent) ≡ k
+run_stop n k start at gap timing until sent h = ap (λ xs. k + length xs) (listed.run_stop [] n k start at gap timing until sent h) ∙ nothing_more k
 
-pub run_over : (n k at gap : ℕ) (timing : Timing) (until : ℕ) (sent : Sent) → n ≤ k → k + length (run (n - k) k at gap timing until sent) ≡ k
-run_over n k at gap timing until sent h = ap (λ xs. k + length xs) (listed.run_over [] n k at gap timing until sent h) ∙ nothing_more k
+pub run_over : (n k start at gap : ℕ) (timing : Timing) (until : ℕ) (sent : Sent) → n ≤ k → k + length (run (n - k) k start at gap timing until sent) ≡ k
+run_over n k start at gap timing until sent h = ap (λ xs. k + length xs) (listed.run_over [] n k start at gap timing until sent h) ∙ nothing_more k
 
 -- ---- frames of one sender
 
 pub runs_step : (room r i d : ℕ) (starts : List ℕ) (timing : Timing) (until : ℕ) (sent : Sent) → i < length starts
-    → left room (length (run (most_sent timing.count) 0 (get_or starts i d) (min timing.every timing.most) timing (next_end (slice_get timing.starts (i + 1)) until) (record sent { state = i }))) ≡ Some r
+    → left room (length (run_from (get_or starts i d) timing (next_end (slice_get timing.starts (i + 1)) until) (record sent { state = i }))) ≡ Some r
     → left room (length (runs i (drop i starts) timing until sent)) ≡ left r (length (runs (i + 1) (drop (i + 1) starts) timing until sent))
 runs_step room r i d starts timing until sent h e =
-    let here = run (most_sent timing.count) 0 (get_or starts i d) (min timing.every timing.most) timing (next_end (slice_get timing.starts (i + 1)) until) (record sent { state = i }) in
+    let here = run_from (get_or starts i d) timing (next_end (slice_get timing.starts (i + 1)) until) (record sent { state = i }) in
     let behind = runs (i + 1) (drop (i + 1) starts) timing until sent in
     ap (λ xs. left room (length xs)) (listed.runs_step [] starts i d timing until sent h) ∙ ap (left room) (length-append here behind) ∙ more room (length here) (length behind) r e
 
 pub runs_full : (room i d : ℕ) (starts : List ℕ) (timing : Timing) (until : ℕ) (sent : Sent) → i < length starts
-    → left room (length (run (most_sent timing.count) 0 (get_or starts i d) (min timing.every timing.most) timing (next_end (slice_get timing.starts (i + 1)) until) (record sent { state = i }))) ≡ None
+    → left room (length (run_from (get_or starts i d) timing (next_end (slice_get timing.starts (i + 1)) until) (record sent { state = i }))) ≡ None
     → left room (length (runs i (drop i starts) timing until sent)) ≡ None
 runs_full room i d starts timing until sent h e =
-    let here = run (most_sent timing.count) 0 (get_or starts i d) (min timing.every timing.most) timing (next_end (slice_get timing.starts (i + 1)) until) (record sent { state = i }) in
+    let here = run_from (get_or starts i d) timing (next_end (slice_get timing.starts (i + 1)) until) (record sent { state = i }) in
     let behind = runs (i + 1) (drop (i + 1) starts) timing until sent in
     ap (λ xs. left room (length xs)) (listed.runs_step [] starts i d timing until sent h) ∙ ap (left room) (length-append here behind) ∙ full room (length here) (length behind) e
 

@@ -1,4 +1,5 @@
 pub mod Counting
+pub mod Growing
 pub mod Lists
 pub mod Moments
 pub mod Running

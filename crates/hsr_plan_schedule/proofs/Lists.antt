@@ -13,7 +13,6 @@ use Rattle.hsr_plan_text.specs.declared.fault.What.{What}
 use Rattle.hsr_plan_text.specs.declared.plan.Event.{Event}
 use Rattle.hsr_plan_network.specs.Nodes.{Node}
 use Rattle.hsr_plan_text.specs.declared.fault.Refusal.TheVariants.{Idle}
-use Rattle.hsr_plan_text.specs.declared.plan.Framing.{Framing}
 use Rattle.hsr_plan_network.proofs.Passing.{passes_fails, passes_step}
 use Rattle.hsr_plan_network.specs.Checks.{each_passes, unless_held}
 use Rattle.hsr_plan_schedule.specs.Changes.{each_felt, idle_key, is_felt, last_before, last_of, later}
@@ -21,9 +20,13 @@ use Rattle.hsr_plan_schedule.specs.declared.changes.Last.{Last}
 use Rattle.hsr_plan_schedule.specs.declared.occasion.Happening.{Happening}
 use Rattle.hsr_plan_schedule.specs.Senders.{source, sources}
 use Rattle.hsr_plan_schedule.specs.Events.{event}
-use Rattle.hsr_plan_schedule.specs.Moments.{fits, sends}
+use Rattle.hsr_plan_schedule.specs.Moments.{sends}
 use Rattle.hsr_plan_schedule.specs.Occasions.{events_from, room_behind, sends_from}
+use Rattle.hsr_plan_schedule.specs.Publishing.{fits, publications_from, published}
 use Rattle.hsr_plan_schedule.specs.declared.occasion.Occasion.{Occasion}
+use Rattle.hsr_plan_schedule.specs.declared.publication.Publication.{Publication}
+use Rattle.hsr_plan_schedule.specs.declared.publishing.Counted.{Counted}
+use Rattle.hsr_plan_schedule.specs.declared.publishing.NextPublication.{NextPublication}
 use Rattle.hsr_plan_schedule.specs.declared.occasion.Sender.{Sender}
 
 -- ---- senders
@@ -74,13 +77,27 @@ felt_fail all es i d e whole h same f =
 
 -- ---- payloads that fit
 
-pub fits_step : (framing : Framing) (xs : List (List ℕ)) (i : ℕ) (d : List ℕ) (u : ⊤) → i < length xs → fits framing (get_or xs i d) ≡ Ok u
-    → each_passes (fits framing) (drop i xs) ≡ each_passes (fits framing) (drop (i + 1) xs)
-fits_step framing = passes_step (fits framing)
+pub fits_step : (p : Publication) (s : Stream) (xs : List (List ℕ)) (i : ℕ) (d : List ℕ) (u : ⊤) → i < length xs → fits p s (get_or xs i d) ≡ Ok u
+    → each_passes (fits p s) (drop i xs) ≡ each_passes (fits p s) (drop (i + 1) xs)
+fits_step p s = passes_step (fits p s)
 
-pub fits_fails : (framing : Framing) (xs : List (List ℕ)) (i : ℕ) (d : List ℕ) (what : What) (whole : Result ⊤ What) → i < length xs
-    → each_passes (fits framing) (drop i xs) ≡ whole → Fails what (fits framing (get_or xs i d)) → Fails what whole
-fits_fails framing = passes_fails (fits framing)
+pub fits_fails : (p : Publication) (s : Stream) (xs : List (List ℕ)) (i : ℕ) (d : List ℕ) (what : What) (whole : Result ⊤ What) → i < length xs
+    → each_passes (fits p s) (drop i xs) ≡ whole → Fails what (fits p s (get_or xs i d)) → Fails what whole
+fits_fails p s = passes_fails (fits p s)
+
+-- ---- what streams publish
+
+pub publications_step : (until : Option ℕ) (seen : List Publication) (counted : Counted) (ss : List Stream) (i : ℕ) (d : Stream) (p : NextPublication) → i < length ss
+    → at_spot (spot.Stream (length seen)) (published until seen counted (get_or ss i d)) ≡ Ok p
+    → publications_from until seen counted (drop i ss) ≡ publications_from until (seen ++ p.publication ∷ []) p.counted (drop (i + 1) ss)
+publications_step until seen counted ss i d p h e =
+    ap (publications_from until seen counted) (drop_more ss i d h) ∙ ap (λ r. r >>= λ p. publications_from until (seen ++ p.publication ∷ []) p.counted (drop (i + 1) ss)) e
+
+pub publications_fail : (until : Option ℕ) (seen : List Publication) (counted : Counted) (ss : List Stream) (i : ℕ) (d : Stream) (e : PlanFault) (whole : Result (List Publication) PlanFault) → i < length ss
+    → publications_from until seen counted (drop i ss) ≡ whole → FailsAt e e.what (at_spot (spot.Stream (length seen)) (published until seen counted (get_or ss i d))) → FailsAt e e.what whole
+publications_fail until seen counted ss i d e whole h same f =
+    subst (FailsAt e e.what) (sym (ap (publications_from until seen counted) (drop_more ss i d h)) ∙ same)
+    (stays_at e e.what (at_spot (spot.Stream (length seen)) (published until seen counted (get_or ss i d))) (λ p. publications_from until (seen ++ p.publication ∷ []) p.counted (drop (i + 1) ss)) f)
 
 -- ---- streams
 

@@ -5,6 +5,8 @@ pub mod Moments
 pub mod Occasions
 pub mod Setting
 pub mod Hearing
-pub mod Orders
 pub mod Naming
+pub mod Payloads
+pub mod Publishing
+pub mod Orders
 pub mod Meaning

@@ -14,8 +14,10 @@ use Rattle.hsr_plan_network.specs.Wiring.{Wired, wired}
 use Rattle.hsr_plan_schedule.specs.Occasions.{occasions}
 use Rattle.hsr_plan_schedule.specs.Naming.{stream_names}
 use Rattle.hsr_plan_schedule.specs.Orders.{told_of}
+use Rattle.hsr_plan_schedule.specs.Publishing.{publications}
 use Rattle.hsr_plan_schedule.specs.Setting.{Setting}
 use Rattle.hsr_plan_schedule.specs.declared.occasion.Occasion.{Occasion}
+use Rattle.hsr_plan_schedule.specs.declared.publication.Publication.{Publication}
 
 -- the same occasions by their moments; those of one moment stay in their order
 pub record AreInOrder (listed sorted : List Occasion) : Type 0 where
@@ -36,25 +38,30 @@ pub record Meaning : Type 0 where
 pub record Listed : Type 0 where
   pub wired : Wired
   pub occasions : List Occasion
+  -- what its streams publish
+  pub publications : List Publication
 
 abbrev pub listed : Plan → Result Listed PlanFault
 listed plan = at_spot spot.Top (wired plan.outline.network)
-    >>= λ w. occasions plan w.nodes w.topology.links >>= λ os. Ok (record { wired = w; occasions = os })
+    >>= λ w. occasions plan w.nodes w.topology.links >>= λ os. publications plan.outline.until plan.streams
+    >>= λ ps. Ok (record { wired = w; occasions = os; publications = ps })
 
 -- where a plan's occasions take place, among its nodes and links
-abbrev pub setting : Plan → Wired → Setting
-setting plan wired = record {
+abbrev pub setting : Plan → Wired → List Publication → Setting
+setting plan wired ps = record {
   moves = plan.outline.moves;
   capacity = plan.outline.capacity;
   nodes = wired.nodes;
   links = wired.topology.links;
   streams = plan.streams;
+  publications = ps;
+  epoch = plan.outline.epoch;
 }
 
 -- the orders that tell what is listed, in order, and the streams of the frames that they send
 abbrev pub Orders : Plan → Listed → List Order → List ℕ → Type 0
 Orders plan all orders sends =
-    (os : List Occasion) × AreInOrder all.occasions os × (orders ≡ (told_of (setting plan all.wired) os).orders) × (sends ≡ (told_of (setting plan all.wired) os).sends)
+    (os : List Occasion) × AreInOrder all.occasions os × (orders ≡ (told_of (setting plan all.wired all.publications) os).orders) × (sends ≡ (told_of (setting plan all.wired all.publications) os).sends)
 
 -- the nodes, the topology and the capacity of a plan, the orders that tell what is listed, in order, and the plan's streams by their names
 pub record Tells (plan : Plan) (all : Listed) (m : Meaning) : Type 0 where

@@ -1,19 +1,19 @@
 -- When supervision and the frames of streams are sent.
-use Rattle.std.specs.Prelude.{ℕ, zero, suc, ◌+◌, ◌-◌, ◌*◌, ◌^◌, min, nat_lt, nat_le, ◌==◌, ◌||◌, Bool, true, false, ⊤, List, [], ◌∷◌, ◌++◌, length, slice_get, Option, Some, None, Result, Ok, Err, if◌then◌else◌}
+use Rattle.std.specs.Prelude.{ℕ, zero, suc, ◌+◌, ◌-◌, ◌*◌, ◌/◌, ◌^◌, min, nat_lt, nat_le, ◌==◌, Bool, true, false, ⊤, List, [], ◌∷◌, ◌++◌, length, slice_get, Option, Some, None, Result, Ok, Err, if◌then◌else◌}
 use Rattle.std.specs.List.{list_all}
 use Rattle.hsr_node.specs.declared.place.Place.{Place}
 use Rattle.hsr_node.specs.declared.place.Place.TheVariants.{Danh, RedBox, QuadBox, Station}
 use Rattle.hsr_toml.specs.Fallible.{◌>>=◌, guard}
-use Rattle.hsr_plan_text.specs.Plan.{Outline, Stream, Timing}
+use Rattle.hsr_plan_text.specs.Plan.{Outline, Stream, Timing, per_second}
 use Rattle.hsr_plan_text.specs.declared.fault.Key.TheVariants as key
 use Rattle.hsr_plan_text.specs.declared.fault.What.{What}
 use Rattle.hsr_plan_text.specs.declared.fault.What.TheVariants.{Refused}
-use Rattle.hsr_plan_text.specs.declared.fault.Refusal.TheVariants.{Endless, TooLate, TooMany, TooSmall}
-use Rattle.hsr_plan_text.specs.declared.plan.Framing.{Framing}
-use Rattle.hsr_plan_text.specs.declared.plan.Kind.{Kind}
-use Rattle.hsr_plan_network.specs.Checks.{each_passes, unless_held}
+use Rattle.hsr_plan_text.specs.declared.fault.Refusal.TheVariants.{Endless, TooLate, TooMany}
+use Rattle.hsr_plan_text.specs.declared.plan.Pace.{Pace}
+use Rattle.hsr_plan_text.specs.declared.plan.Pace.TheVariants.{Gaps, Samples}
+use Rattle.hsr_plan_text.specs.declared.plan.SampleRate.{SampleRate}
+use Rattle.hsr_plan_network.specs.Checks.{unless_held}
 use Rattle.hsr_plan_network.specs.Nodes.{Node}
-use Rattle.hsr_plan_payload.specs.Payload.{payload}
 use Rattle.hsr_plan_schedule.specs.Senders.{sources, target}
 use Rattle.hsr_plan_schedule.specs.declared.occasion.Happening.TheVariants.{Life, Send}
 use Rattle.hsr_plan_schedule.specs.declared.occasion.Occasion.{Occasion}
@@ -71,12 +71,35 @@ abbrev pub most_sent : Option ℕ → ℕ
 most_sent None = 2 ^ 20 + 1
 most_sent (Some count) = min count (2 ^ 20 + 1)
 
+abbrev pub first_gap : Pace → ℕ
+first_gap (Gaps every grow most) = min every most
+first_gap (Samples rate) = 0
+
+-- the gap behind one
+abbrev pub next_gap : Pace → ℕ → ℕ
+next_gap (Gaps every grow most) gap = min (gap * grow) most
+next_gap (Samples rate) gap = gap
+
+-- how long n samples take, to the nearest microsecond; half of one counts as one
+abbrev pub time_of : SampleRate → ℕ → ℕ
+time_of rate n = (n * 1000000 + per_second rate / 2) / per_second rate
+
+-- the moment of the k-th frame behind a start, where the one before it comes at a moment, with this gap behind it
+abbrev pub moment : Timing → Pace → ℕ → ℕ → ℕ → ℕ → ℕ
+moment timing (Gaps every grow most) start k at gap = at + gap
+moment timing (Samples rate) start k at gap = start + time_of rate (k * timing.asdus)
+
 -- frames of one sender from one start on, n at most: from the k-th, at a moment, with this gap to the next
-unfoldable pub run : ℕ → ℕ → ℕ → ℕ → Timing → ℕ → Sent → List Occasion
-run zero k at gap timing until sent = []
-run (suc n) k at gap timing until sent = if nat_lt at until
-    then record { at = at; what = Send (record sent { count = k }) } ∷ run n (k + 1) (at + gap) (min (gap * timing.grow) timing.most) timing until sent
+unfoldable pub run : ℕ → ℕ → ℕ → ℕ → ℕ → Timing → ℕ → Sent → List Occasion
+run zero k start at gap timing until sent = []
+run (suc n) k start at gap timing until sent = if nat_lt at until
+    then record { at = at; what = Send (record sent { count = k }) }
+    ∷ run n (k + 1) start (moment timing timing.pace start (k + 1) at gap) (next_gap timing.pace gap) timing until sent
     else []
+
+-- all of them
+abbrev pub run_from : ℕ → Timing → ℕ → Sent → List Occasion
+run_from start timing until sent = run (most_sent timing.count) 0 start start (first_gap timing.pace) timing until sent
 
 -- a start ends the one before it
 abbrev pub next_end : Option ℕ → ℕ → ℕ
@@ -87,7 +110,7 @@ next_end (Some start) until = min start until
 abbrev pub runs : ℕ → List ℕ → Timing → ℕ → Sent → List Occasion
 runs s [] timing until sent = []
 runs s (start ∷ more) timing until sent =
-    run (most_sent timing.count) 0 start (min timing.every timing.most) timing (next_end (slice_get timing.starts (s + 1)) until) (record sent { state = s })
+    run_from start timing (next_end (slice_get timing.starts (s + 1)) until) (record sent { state = s })
     ++ runs (s + 1) more timing until sent
 
 -- frames of senders that follow j others, of a stream with this number
@@ -96,17 +119,6 @@ sent_by i j [] timing until dst = []
 sent_by i j (s ∷ more) timing until dst =
     runs 0 timing.starts timing until (record { stream = i; index = j; sender = s; dst = dst; state = 0; count = 0 })
     ++ sent_by i (j + 1) more timing until dst
-
--- how many octets the shortest payload of a kind has, in the first frame of a name
-abbrev pub shortest : Kind → List ℕ → ℕ
-shortest kind name = length (payload kind 0 name 0 0)
-
--- no size is said, or one of as many octets
-abbrev pub is_enough : Framing → ℕ → Bool
-is_enough framing least = framing.size == 0 || nat_le least framing.size
-
-unfoldable pub fits : Framing → List ℕ → Result ⊤ What
-fits framing name = unless_held (is_enough framing (shortest framing.kind name)) (TooSmall (shortest framing.kind name))
 
 -- how much room is left after n, if there is as much
 unfoldable pub left : ℕ → ℕ → Option ℕ
@@ -123,5 +135,4 @@ starts_in_time until starts = unless_held (list_all (λ start. nat_lt start unti
 -- all frames of a stream, if there is room for them
 abbrev pub sends : List Node → Option ℕ → ℕ → ℕ → Stream → Result (List Occasion) What
 sends nodes until room i stream = target nodes stream.framing.target >>= λ dst. sources nodes dst [] stream.from
-    >>= λ senders. each_passes (fits stream.framing) stream.from >>= λ _. end_of until stream.timing
-    >>= λ until. starts_in_time until stream.timing.starts >>= λ _. in_room room (sent_by i 0 senders stream.timing until dst)
+    >>= λ senders. end_of until stream.timing >>= λ until. starts_in_time until stream.timing.starts >>= λ _. in_room room (sent_by i 0 senders stream.timing until dst)

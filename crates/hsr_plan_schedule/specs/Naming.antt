@@ -17,10 +17,13 @@ count_of Goose counts = counts.goose
 count_of SampledValues counts = counts.sampled
 count_of (Number n) counts = counts.other
 
-abbrev pub with_one : Kind → Counts → Counts
-with_one Goose counts = record counts { goose = counts.goose + 1 }
-with_one SampledValues counts = record counts { sampled = counts.sampled + 1 }
-with_one (Number n) counts = record counts { other = counts.other + 1 }
+abbrev pub none : Counts
+none = record { goose = 0; sampled = 0; other = 0 }
+
+abbrev pub with_more : Kind → ℕ → Counts → Counts
+with_more Goose more counts = record counts { goose = counts.goose + more }
+with_more SampledValues more counts = record counts { sampled = counts.sampled + more }
+with_more (Number n) more counts = record counts { other = counts.other + more }
 
 -- the name of the last stream of a kind, where there are so many
 abbrev pub stream_name : Kind → Counts → List ℕ
@@ -29,8 +32,8 @@ stream_name kind counts = kind_word kind ++ decimal (count_of kind counts)
 -- the names of streams, before which there are so many
 abbrev pub names_from : Counts → List Stream → List (List ℕ)
 names_from counts [] = []
-names_from counts (s ∷ ss) = stream_name s.framing.kind (with_one s.framing.kind counts) ∷ names_from (with_one s.framing.kind counts) ss
+names_from counts (s ∷ ss) = stream_name s.framing.kind (with_more s.framing.kind 1 counts) ∷ names_from (with_more s.framing.kind 1 counts) ss
 
 -- the names of a plan's streams: those of each kind are numbered from 1
 abbrev pub stream_names : List Stream → List (List ℕ)
-stream_names streams = names_from (record { goose = 0; sampled = 0; other = 0 }) streams
+stream_names streams = names_from none streams

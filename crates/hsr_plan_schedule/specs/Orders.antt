@@ -11,7 +11,7 @@ use Rattle.hsr_plan_text.specs.declared.plan.Kind.{Kind}
 use Rattle.hsr_plan_text.specs.declared.plan.Kind.TheVariants.{Goose, SampledValues, Number}
 use Rattle.hsr_plan_text.specs.declared.plan.Moves.{Moves}
 use Rattle.hsr_plan_text.specs.declared.plan.Moves.TheVariants.{EachSendDrains, EachMomentDrains, Hop}
-use Rattle.hsr_plan_payload.specs.Payload.{payload}
+use Rattle.hsr_plan_schedule.specs.Payloads.{payload}
 use Rattle.hsr_plan_schedule.specs.Hearing.{Heard, has_room, heard_on, interlink_to, knows, macs_behind, nothing_heard, settled}
 use Rattle.hsr_plan_schedule.specs.Setting.{Setting}
 use Rattle.hsr_plan_schedule.specs.declared.occasion.Happening.{Happening}
@@ -19,6 +19,8 @@ use Rattle.hsr_plan_schedule.specs.declared.occasion.Happening.TheVariants as ha
 use Rattle.hsr_plan_schedule.specs.declared.occasion.Occasion.{Occasion}
 use Rattle.hsr_plan_schedule.specs.declared.occasion.Sender.{Sender}
 use Rattle.hsr_plan_schedule.specs.declared.occasion.Sent.{Sent}
+use Rattle.hsr_plan_schedule.specs.declared.publication.Publication.{Publication}
+use Rattle.hsr_plan_schedule.specs.declared.publication.Turn.{Turn}
 
 -- what was told so far: the moment, which nodes are off, which links are cut by an event, whether something was sent since the
 -- last drain, what was heard of stations, the orders, and of each frame that they send the number of its stream
@@ -133,13 +135,21 @@ type_of Goose = 0x88B8
 type_of SampledValues = 0x88BA
 type_of (Number n) = n
 
-abbrev pub named_send : Stream → Sent → List ℕ → Order
-named_send stream sent name = Step (step.Send sent.sender.node sent.sender.from sent.dst stream.framing.tag (type_of stream.framing.kind)
-    (payload stream.framing.kind stream.framing.size name sent.state sent.count))
-
 abbrev pub name_if : Option (List ℕ) → List ℕ
 name_if None = []
 name_if (Some name) = name
+
+-- which frame of a stream is sent
+abbrev pub turn_of : Sent → Turn
+turn_of sent = record { index = sent.index; state = sent.state; count = sent.count }
+
+abbrev pub payload_if : Setting → Stream → Option Publication → Turn → List ℕ
+payload_if g stream None turn = []
+payload_if g stream (Some p) turn = payload g.epoch p stream stream.framing.size (name_if (slice_get stream.from turn.index)) turn
+
+abbrev pub named_send : Setting → Stream → Sent → Order
+named_send g stream sent = Step (step.Send sent.sender.node sent.sender.from sent.dst stream.framing.tag (type_of stream.framing.kind)
+    (payload_if g stream (slice_get g.publications sent.stream) (turn_of sent)))
 
 -- a frame is from the stream of that number
 abbrev pub from_stream : ℕ → Told → Told
@@ -147,7 +157,7 @@ from_stream i told = record told { sends = told.sends ++ i ∷ [] }
 
 abbrev pub send_if : Setting → Option Stream → Sent → Told → Told
 send_if g None sent told = told
-send_if g (Some stream) sent told = sending g.moves (named_send stream sent (name_if (slice_get stream.from sent.index))) (from_stream sent.stream (hear g sent.sender told))
+send_if g (Some stream) sent told = sending g.moves (named_send g stream sent) (from_stream sent.stream (hear g sent.sender told))
 
 -- ---- all
 

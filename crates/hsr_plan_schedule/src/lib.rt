@@ -6,11 +6,14 @@
 //! - `events`: the events of a plan as occasions
 //! - `changes`: events that change something
 //! - `lives`: when supervision frames are sent
+//! - `publication`: what a stream publishes, and which of its frames is meant
+//! - `payloads`: the payload of a frame of a stream
 //! - `sends`: when the frames of streams are sent
 //! - `occasions`: all that happens in a plan
 //! - `setting`: where the occasions of a plan take place
 //! - `hearing`: what RedBoxes hear of the stations behind them
 //! - `naming`: the names of a plan's streams
+//! - `publishing`: by what receivers know the streams of a plan
 //! - `orders`: the orders of a scenario that tell what happens in a plan
 //! - `meaning`: what a plan means
 #![tactic(auto)]
@@ -24,6 +27,9 @@ mod naming;
 mod occasion;
 mod occasions;
 mod orders;
+mod payloads;
+mod publication;
+mod publishing;
 mod senders;
 mod sends;
 mod setting;

@@ -11,6 +11,8 @@ use crate::naming::stream_names;
 use crate::occasion::Occasion;
 use crate::occasions::{at_spot, occasions};
 use crate::orders::{Told, told_of};
+use crate::publication::Publication;
+use crate::publishing::publications;
 use crate::setting::Setting;
 use hsr_frame::NoMemory;
 use hsr_plan_network::{Node, Wired, wire};
@@ -49,11 +51,12 @@ fn sort(occasions: &mut Vec<Occasion>) -> Result<(), NoMemory>
     Ok(())
 }
 
-/// The nodes and the topology of a plan, and all that happens in it, as it is listed.
+/// The nodes and the topology of a plan, all that happens in it, as it is listed, and what its streams publish.
 #[derive(Drop)]
 struct Listed {
     wired: Wired,
     occasions: Vec<Occasion>,
+    publications: Vec<Publication>,
 }
 
 impl Model for Listed {
@@ -61,7 +64,7 @@ impl Model for Listed {
 
     ghost Value = { Listed };
 
-    ghost view = { λ l. record { wired = l.wired; occasions = l.occasions.items } };
+    ghost view = { λ l. record { wired = l.wired; occasions = l.occasions.items; publications = l.publications.items } };
 }
 
 /// The nodes and the topology of a plan.
@@ -78,7 +81,12 @@ fn all_listed(alloc: Global, plan: &Plan) -> Result<Listed, PlanFault>
 {
     let wired = wired(alloc, plan)?;
     let occasions = occasions(alloc, plan, wired.nodes.as_slice(), wired.topology.links())?;
-    Ok(Listed { wired, occasions })
+    let publications = publications(alloc, plan.outline.until, plan.streams.as_slice())?;
+    Ok(Listed {
+        wired,
+        occasions,
+        publications,
+    })
 }
 
 /// What is told of occasions of a plan.
@@ -86,9 +94,11 @@ fn told_of_plan(
     alloc: Global,
     plan: &Plan,
     wired: &Wired,
+    publications: &[Publication],
     occasions: &[Occasion],
 ) -> Result<Told, NoMemory>
-    ensures { IfOk result (λ told. told ≡ told_of (setting plan.now wired.now) occasions.now) }
+    ensures { IfOk result (λ told. told
+        ≡ told_of (setting plan.now wired.now publications.now) occasions.now) }
 {
     let setting = Setting {
         moves: plan.outline.moves,
@@ -96,6 +106,8 @@ fn told_of_plan(
         nodes: wired.nodes.as_slice(),
         links: wired.topology.links(),
         streams: plan.streams.as_slice(),
+        publications,
+        epoch: plan.outline.epoch,
     };
     told_of(alloc, &setting, occasions)
 }
@@ -105,11 +117,18 @@ fn told_in_order(alloc: Global, plan: &Plan, listed: Listed) -> Result<Meaning, 
     ensures { IfOk result (λ m. Tells plan.now listed m) }
 {
     let wired = listed.wired;
+    let publications = listed.publications;
     // Listed and in order are two functions, so that each owns one list that it may have to drop.
     let mut occasions = listed.occasions;
     sort(&mut occasions)?;
     let streams = stream_names(alloc, plan.streams.as_slice())?;
-    let told = told_of_plan(alloc, plan, &wired, occasions.as_slice())?;
+    let told = told_of_plan(
+        alloc,
+        plan,
+        &wired,
+        publications.as_slice(),
+        occasions.as_slice(),
+    )?;
     Ok(Meaning {
         nodes: wired.nodes,
         topology: wired.topology,
@@ -133,8 +152,8 @@ fn no_memory() -> PlanFault
 /// What a plan means. At one moment come events as they are listed, then the supervision of all DANHs and RedBoxes in their order, each
 /// RedBox also about the stations behind it that it knows then, then the frames of streams as they are listed. What is off sends
 /// nothing, and its links are down. Where copies move by hops, the orders have no moves of copies yet, and supervision about all
-/// stations. A fault is the first in this order: the nodes and links, the events, the supervision, over 2^20 of these, the streams, and
-/// over 2^20 of all. `NoMemory` comes where a growth was refused, in place of any other answer.
+/// stations. A fault is the first in this order: the nodes and links, the events, the supervision, over 2^20 of these, the streams,
+/// over 2^20 of all, and what the streams publish, by number: an APPID that is another's, then the size of a sender's first frame. `NoMemory` comes where a growth was refused, in place of any other answer.
 pub fn meaning_of(alloc: Global, plan: &Plan) -> Result<Meaning, PlanFault>
     ensures ok { IfOk result (λ m. Means plan.now m) }
     ensures err { IfErr result (λ e. FailsAt e e.what (listed plan.now)) }

@@ -1,13 +1,13 @@
 //! The names of a plan's streams.
 ghost use Rattle.std.specs.Prelude.{◌≡◌, ◌+◌, IfOk};
-ghost use Rattle.hsr_plan_schedule.specs.Naming.{count_of, kind_word, stream_name, stream_names, with_one};
+ghost use Rattle.hsr_plan_schedule.specs.Naming.{count_of, kind_word, none, stream_name, stream_names, with_more};
 
 use hsr_frame::NoMemory;
 use hsr_plan_text::{Kind, Stream, Word};
 use hsr_text::{put, put_number};
 use std::alloc::Global;
 
-/// How many streams there are of each kind.
+/// How many there are of each kind: streams, or senders of these.
 #[derive(Clone, Copy, Debug, PartialEq, Eq)]
 pub(crate) struct Counts {
     goose: u64,
@@ -26,8 +26,21 @@ fn kind_word(kind: Kind) -> &'static str
     }
 }
 
-/// How many streams there are of a kind.
-fn count_of(kind: Kind, counts: Counts) -> u64
+impl Counts {
+    /// None of any kind.
+    pub(crate) fn none() -> Counts
+        ensures { result ≡ none }
+    {
+        Counts {
+            goose: 0,
+            sampled: 0,
+            other: 0,
+        }
+    }
+}
+
+/// How many there are of a kind.
+pub(crate) fn count_of(kind: Kind, counts: Counts) -> u64
     ensures { result ≡ count_of kind counts }
 {
     match kind {
@@ -37,20 +50,20 @@ fn count_of(kind: Kind, counts: Counts) -> u64
     }
 }
 
-/// One more.
-fn one_more(count: u64) -> Result<u64, NoMemory>
-    ensures { IfOk result (λ n. n ≡ count + 1) }
+/// So many more.
+pub(crate) fn added(count: u64, more: u64) -> Result<u64, NoMemory>
+    ensures { IfOk result (λ n. n ≡ count + more) }
 {
-    match count.checked_add(1) {
-        Some(more) => Ok(more),
+    match count.checked_add(more) {
+        Some(sum) => Ok(sum),
         // no plan that is read comes near it
         None => Err(NoMemory),
     }
 }
 
-/// One more of a kind.
-fn with_one(kind: Kind, counts: Counts) -> Result<Counts, NoMemory>
-    ensures { IfOk result (λ c. c ≡ with_one kind counts) }
+/// So many more of a kind.
+pub(crate) fn with_more(kind: Kind, more: u64, counts: Counts) -> Result<Counts, NoMemory>
+    ensures { IfOk result (λ c. c ≡ with_more kind more counts) }
 {
     let Counts {
         mut goose,
@@ -58,9 +71,9 @@ fn with_one(kind: Kind, counts: Counts) -> Result<Counts, NoMemory>
         mut other,
     } = counts;
     match kind {
-        Kind::Goose => goose = one_more(goose)?,
-        Kind::SampledValues => sampled = one_more(sampled)?,
-        Kind::Number(_) => other = one_more(other)?,
+        Kind::Goose => goose = added(goose, more)?,
+        Kind::SampledValues => sampled = added(sampled, more)?,
+        Kind::Number(_) => other = added(other, more)?,
     }
     Ok(Counts {
         goose,
@@ -70,7 +83,7 @@ fn with_one(kind: Kind, counts: Counts) -> Result<Counts, NoMemory>
 }
 
 /// The name of the last stream of a kind, where there are so many.
-fn stream_name(alloc: Global, kind: Kind, counts: Counts) -> Result<Word, NoMemory>
+pub(crate) fn stream_name(alloc: Global, kind: Kind, counts: Counts) -> Result<Word, NoMemory>
     ensures { IfOk result (λ name. name ≡ stream_name kind counts) }
 {
     let mut name = Vec::new(alloc);
@@ -85,14 +98,10 @@ pub(crate) fn stream_names(alloc: Global, streams: &[Stream]) -> Result<Vec<Word
     ensures { IfOk result (λ names. names.items ≡ stream_names streams.now) }
 {
     let mut names = Vec::new(alloc);
-    let mut counts = Counts {
-        goose: 0,
-        sampled: 0,
-        other: 0,
-    };
+    let mut counts = Counts::none();
     for stream in streams.iter() {
         let kind = stream.framing.kind;
-        counts = with_one(kind, counts)?;
+        counts = with_more(kind, 1, counts)?;
         names.push(stream_name(alloc, kind, counts)?)?;
     }
     Ok(names)

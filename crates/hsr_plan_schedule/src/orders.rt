@@ -1,25 +1,20 @@
 //! The orders of a scenario that tell what happens in a plan.
 ghost use Rattle.std.specs.Prelude.{◌≡◌, ◌++◌, slice_get, slice_set, IfOk, OnOk};
-ghost use Rattle.hsr_plan_schedule.specs.Orders.{change, changed, changes, clocked, comes, downs, drain, drained, ends_off, flag, from_stream, happens, hear, hear_on, is_down, is_to_speak, live, name_if, named_send, send_if, sending, speak, speak_of, start, tell_occasion, tell_all, told_of, type_of};
+ghost use Rattle.hsr_plan_schedule.specs.Orders.{change, changed, changes, clocked, comes, downs, drain, drained, ends_off, flag, from_stream, happens, hear, hear_on, is_down, is_to_speak, live, name_if, named_send, payload_if, send_if, sending, speak, speak_of, start, tell_occasion, tell_all, told_of, type_of};
 
 use crate::hearing::{Heard, interlink_to, macs_behind};
 use crate::occasion::{Happening, Occasion, Sender, Sent};
+use crate::payloads::payload;
+use crate::publication::Turn;
 use crate::setting::Setting;
 use hsr_frame::{About, Mac, NoMemory};
 use hsr_node::Octets;
-use hsr_plan_payload::payload;
 use hsr_plan_text::{Kind, Moves, Stream};
 use hsr_scenario::Order;
 use hsr_topology::End;
 use hsr_world_steps::Step;
 use std::alloc::Global;
 use std::marker::Model;
-
-/// More octets than any payload has.
-const SIZE_LIMIT: usize = 65536;
-
-/// More starts than any stream has.
-const STATE_LIMIT: usize = 1 << 32;
 
 /// What was told so far: the moment, which nodes are off, which links are cut by an event, whether something was sent since the last
 /// drain, what was heard of stations, the orders, and of each frame that they send the number of its stream.
@@ -158,29 +153,55 @@ fn name_of(stream: &Stream, index: usize) -> &[u8]
     }
 }
 
-/// The send of a frame of a stream.
-fn named_send(alloc: Global, stream: &Stream, sent: Sent) -> Result<Order, NoMemory>
-    ensures { IfOk result (λ o. o ≡ named_send stream.now sent
-        (name_if (slice_get stream.now.from sent.index))) }
+/// The payload of a frame of the stream of that number.
+fn payload_of(
+    alloc: Global,
+    setting: &Setting<'_>,
+    stream: &Stream,
+    number: usize,
+    turn: Turn,
+) -> Result<Vec<u8>, NoMemory>
+    ensures { IfOk result (λ v. v.items ≡ payload_if setting.now stream.now
+        (slice_get setting.now.publications number) turn) }
 {
-    let framing = &stream.framing;
-    // no plan that is read comes near these
-    if framing.size > SIZE_LIMIT || sent.state > STATE_LIMIT {
-        return Err(NoMemory);
+    match setting.publications.get(number) {
+        Some(publication) => {
+            let name = name_of(stream, turn.index);
+            let size = stream.framing.size;
+            payload(alloc, setting.epoch, publication, stream, size, name, turn)
+        }
+        None => Ok(Vec::new(alloc)),
     }
-    let name = name_of(stream, sent.index);
-    let payload = payload(
-        alloc,
-        framing.kind,
-        framing.size,
-        name,
-        sent.state,
-        sent.count,
-    )?;
+}
+
+/// The send of a frame of a stream.
+fn named_send(
+    alloc: Global,
+    setting: &Setting<'_>,
+    stream: &Stream,
+    sent: Sent,
+) -> Result<Order, NoMemory>
+    ensures { IfOk result (λ o. o ≡ named_send setting.now stream.now sent) }
+{
+    let Sent {
+        stream: number,
+        index,
+        sender,
+        dst,
+        state,
+        count,
+    } = sent;
+    let turn = Turn {
+        index,
+        state,
+        count,
+    };
+    let payload = payload_of(alloc, setting, stream, number, turn)?;
+    let framing = &stream.framing;
     Ok(Order::Step(Step::Send {
-        node: sent.sender.node,
-        from: sent.sender.from,
-        dst: sent.dst,
+        node: sender.node,
+        from: sender.from,
+        dst,
         vlan: framing.tag,
         kind: type_of(framing.kind),
         payload: Octets::new(payload),
@@ -388,7 +409,7 @@ impl Told {
         match setting.streams.get(number) {
             Some(stream) => {
                 // Room for the order comes first, so that nothing is heard of a frame that isn't sent.
-                let order = named_send(alloc, stream, sent)?;
+                let order = named_send(alloc, setting, stream, sent)?;
                 self.hear(setting, sender)?;
                 self.from_stream(number)?;
                 self.send(setting.moves, order)

@@ -1,11 +1,11 @@
 //! When the frames of streams are sent.
 //!
 //! Frames are counted before they are listed: a short plan may ask for 4096 senders of a million frames each.
-ghost use Rattle.std.specs.Prelude.{◌≡◌, ◌++◌, ◌+◌, ◌*◌, ◌≤◌, ◌<◌, ◌^◌, min, nat_le, nat_lt, length, slice_get, IfOk, OnOk};
+ghost use Rattle.std.specs.Prelude.{◌≡◌, ◌++◌, ◌+◌, ◌-◌, ◌≤◌, ◌<◌, ◌^◌, min, nat_le, nat_lt, length, slice_get, IfOk, OnOk};
 ghost use Rattle.std.specs.List.{list_all};
 ghost use Rattle.hsr_plan_text.specs.Fallible.{Gives};
-ghost use Rattle.hsr_plan_schedule.specs.Moments.{earlier, end_of, fits, left, most_sent, next_end, run, runs, sends, sent_by, shortest, starts_in_time};
-ghost use Rattle.hsr_plan_network.specs.Checks.{each_passes, unless_held};
+ghost use Rattle.hsr_plan_schedule.specs.Moments.{earlier, end_of, first_gap, left, moment, most_sent, next_end, next_gap, run, run_from, runs, sends, sent_by, starts_in_time, time_of};
+ghost use Rattle.hsr_plan_network.specs.Checks.{unless_held};
 ghost use Rattle.hsr_plan_text.specs.declared.fault.Key.TheVariants as key;
 ghost use Rattle.hsr_plan_text.specs.declared.fault.Refusal.TheVariants.{TooMany as IsTooMany};
 
@@ -13,8 +13,7 @@ use crate::occasion::{Happening, Occasion, Sender, Sent};
 use crate::senders::{sources, target};
 use hsr_frame::{Mac, NoMemory};
 use hsr_plan_network::Node;
-use hsr_plan_payload::payload;
-use hsr_plan_text::{Framing, Key, Kind, Refusal, Stream, Timing, What, Word};
+use hsr_plan_text::{Key, Pace, Refusal, SampleRate, Stream, Timing, What};
 use std::alloc::Global;
 
 /// The most occasions of a plan.
@@ -22,10 +21,10 @@ const MOST: u64 = 1 << 20;
 
 // A stream with a count and no end goes on so far at most.
 /// Behind the last moment that a plan may name.
-const BEHIND: u64 = 1 << 41;
+pub(crate) const BEHIND: u64 = 1 << 41;
 
 /// The earlier of two moments.
-fn earlier(one: Option<u64>, other: Option<u64>) -> Option<u64>
+pub(crate) fn earlier(one: Option<u64>, other: Option<u64>) -> Option<u64>
     ensures { result ≡ earlier one other }
 {
     match (one, other) {
@@ -47,7 +46,7 @@ fn end_of(until: Option<u64>, timing: &Timing) -> Result<u64, What>
 }
 
 /// How many frames are sent from a start on at most.
-fn most_sent(count: Option<u64>) -> u64
+pub(crate) fn most_sent(count: Option<u64>) -> u64
     ensures value { result ≡ most_sent count }
     ensures most { result ≤ 2 ^ 20 + 1 }
 {
@@ -79,12 +78,51 @@ fn first(stream: usize, index: usize, sender: Sender, dst: Mac) -> Sent
     }
 }
 
-/// The gap behind this one.
-fn next_gap(gap: u64, timing: &Timing) -> u64
-    ensures { result ≡ min (gap * timing.now.grow) timing.now.most }
+// ---- moments
+
+/// The first gap of a pace; 0 where samples tell the moments.
+fn first_gap(pace: Pace) -> u64
+    ensures { result ≡ first_gap pace }
 {
-    // Saturating, since the longest gap bounds it anyway.
-    gap.saturating_mul(timing.grow).min(timing.most)
+    match pace {
+        Pace::Gaps { every, most, .. } => every.min(most),
+        Pace::Samples(_) => 0,
+    }
+}
+
+/// The gap behind this one.
+pub(crate) fn next_gap(pace: Pace, gap: u64) -> u64
+    ensures { result ≡ next_gap pace gap }
+{
+    match pace {
+        // Saturating, since the longest gap bounds it anyway.
+        Pace::Gaps { grow, most, .. } => gap.saturating_mul(grow).min(most),
+        Pace::Samples(_) => gap,
+    }
+}
+
+/// How many microseconds samples take, to the nearest one.
+fn time_of(rate: SampleRate, samples: u64) -> u64
+    requires { samples ≤ 2 ^ 40 }
+    ensures { result ≡ time_of rate samples }
+{
+    // From the start on and not from sample to sample: so what is rounded doesn't add up.
+    let rate = rate.per_second();
+    (samples * 1_000_000 + rate / 2) / rate
+}
+
+/// The moment of the `count`-th frame behind a start, where the one before it comes `at` a moment.
+fn moment(timing: &Timing, start: u64, count: usize, at: u64, gap: u64) -> u64
+    requires { count ≤ 2 ^ 21 }
+    ensures { result ≡ min (moment timing.now timing.now.pace start count at gap) (2 ^ 64 - 1) }
+{
+    match timing.pace {
+        Pace::Gaps { .. } => at.saturating_add(gap),
+        Pace::Samples(rate) => {
+            let asdus = timing.asdus;
+            start.saturating_add(time_of(rate, count as u64 * asdus as u64))
+        }
+    }
 }
 
 // ---- how many there are
@@ -111,12 +149,12 @@ fn left_by_run(
     until: u64,
     sent: &Sent,
 ) -> Option<usize>
-    ensures { result
-        ≡ left room (length (run most 0 start
-        (min timing.now.every timing.now.most) timing.now until sent.now)) }
+    requires { most ≤ 2 ^ 20 + 1 }
+    ensures { result ≡ left room (length
+        (run most 0 start start (first_gap timing.now.pace) timing.now until sent.now)) }
 {
     let mut at = start;
-    let mut gap = timing.every.min(timing.most);
+    let mut gap = first_gap(timing.pace);
     for count in 0..most {
         if at >= until {
             return left(room, count);
@@ -125,8 +163,8 @@ fn left_by_run(
         if count >= room {
             return None;
         }
-        at = at.saturating_add(gap);
-        gap = next_gap(gap, timing);
+        at = moment(timing, start, count + 1, at, gap);
+        gap = next_gap(timing.pace, gap);
     }
     left(room, most)
 }
@@ -142,7 +180,7 @@ fn left_by_state(
 ) -> Option<usize>
     requires { state < 2 ^ 63 }
     ensures { result ≡ left room (length
-        (run (most_sent timing.now.count) 0 start (min timing.now.every timing.now.most) timing.now (next_end (slice_get timing.now.starts (state + 1)) until) (record sent.now { state = state }))) }
+        (run_from start timing.now (next_end (slice_get timing.now.starts (state + 1)) until) (record sent.now { state = state }))) }
 {
     let end = next_end(timing.starts.as_slice(), state + 1, until);
     let most = most_sent(timing.count) as usize;
@@ -219,20 +257,20 @@ fn add_run(
     until: u64,
     sent: &Sent,
 ) -> Result<(), NoMemory>
-    ensures { OnOk result (occasions.new.items
-        ≡ occasions.old.items ++ run most 0 start
-        (min timing.now.every timing.now.most) timing.now until sent.now) }
+    requires { most ≤ 2 ^ 20 + 1 }
+    ensures { OnOk result (occasions.new.items ≡ occasions.old.items
+        ++ run most 0 start start (first_gap timing.now.pace) timing.now until sent.now) }
 {
     let mut at = start;
-    let mut gap = timing.every.min(timing.most);
+    let mut gap = first_gap(timing.pace);
     for count in 0..most {
         if at >= until {
             return Ok(());
         }
         let what = Happening::Send(sent.with_count(count));
         occasions.push(Occasion { at, what })?;
-        at = at.saturating_add(gap);
-        gap = next_gap(gap, timing);
+        at = moment(timing, start, count + 1, at, gap);
+        gap = next_gap(timing.pace, gap);
     }
     Ok(())
 }
@@ -259,7 +297,7 @@ fn add_state(
 ) -> Result<(), NoMemory>
     requires { state < 2 ^ 63 }
     ensures { OnOk result (occasions.new.items ≡ occasions.old.items
-        ++ run (most_sent timing.now.count) 0 start (min timing.now.every timing.now.most) timing.now (next_end (slice_get timing.now.starts (state + 1)) until) (record sent.now { state = state })) }
+        ++ run_from start timing.now (next_end (slice_get timing.now.starts (state + 1)) until) (record sent.now { state = state })) }
 {
     let end = next_end(timing.starts.as_slice(), state + 1, until);
     let most = most_sent(timing.count) as usize;
@@ -303,42 +341,6 @@ fn sent_by(
     Ok(occasions)
 }
 
-/// How many octets the shortest payload of a kind has, in the first frame of a name.
-fn shortest(alloc: Global, kind: Kind, name: &[u8]) -> Result<usize, NoMemory>
-    ensures { IfOk result (λ n. n ≡ shortest kind name.now) }
-{
-    let payload = payload(alloc, kind, 0, name, 0, 0)?;
-    Ok(payload.len())
-}
-
-/// Refuses a size that is below the shortest payload of a name.
-#[tactic(auto, unfolding(crate::specs::Moments::fits))]
-fn check_size(alloc: Global, framing: &Framing, name: &Word) -> Result<(), What>
-    ensures { Gives (λ u. u) result (fits framing.now name.now) }
-{
-    let least = shortest(alloc, framing.kind, name.as_bytes())?;
-    // 0 asks for the shortest, so it is always enough.
-    if framing.size == 0 || least <= framing.size {
-        Ok(())
-    } else {
-        Err(What::Refused(Refusal::TooSmall(least)))
-    }
-}
-
-/// Refuses a size that is below the shortest payload of one of these names.
-#[tactic(auto, using(crate::proofs::Lists::fits_step, crate::proofs::Lists::fits_fails))]
-fn check_sizes(alloc: Global, framing: &Framing, names: &[Word]) -> Result<(), What>
-    ensures { Gives (λ u. u) result (each_passes (fits framing.now) names.now) }
-{
-    for name in names.iter() {
-        match check_size(alloc, framing, name) {
-            Ok(()) => {}
-            Err(what) => return Err(what),
-        }
-    }
-    Ok(())
-}
-
 /// Whether each start comes before the end.
 fn are_before(until: u64, starts: &[u64]) -> bool
     ensures { result ≡ list_all (λ start. nat_lt start until) starts.now }
@@ -371,7 +373,6 @@ pub(crate) fn sends(
     let dst = target(alloc, nodes, &stream.framing.target)?;
     let senders = sources(alloc, nodes, dst, stream.from.as_slice())?;
     let senders = senders.as_slice();
-    check_sizes(alloc, &stream.framing, stream.from.as_slice())?;
     let until = end_of(until, &stream.timing)?;
     starts_in_time(until, stream.timing.starts.as_slice())?;
     check_room(room, number, senders, &stream.timing, until, dst)?;

@@ -1,5 +1,5 @@
 -- Items that are counted, and moments that rise.
-use Rattle.std.proofs.Common.{◌≡◌, ℕ, ◌+◌, ◌<◌, ◌∙◌, ◌&&◌, suc, length, get_or, drop, List, [], ◌∷◌, Option, Some, refl, ap}
+use Rattle.std.proofs.Common.{◌≡◌, ℕ, ◌+◌, ◌<◌, ◌&&◌, suc, length, get_or, drop, List, [], ◌∷◌, Option, Some, refl, ap}
 use Rattle.std.proofs.lemmas.List.{drop_more}
 use Rattle.toml.specs.View.{items_view}
 use Rattle.toml.specs.declared.value.Value.{Value}

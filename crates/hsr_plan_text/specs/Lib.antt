@@ -4,6 +4,7 @@ pub mod Fallible
 pub mod Tables
 pub mod Words
 pub mod Network
+pub mod Publishing
 pub mod Streams
 pub mod Events
 pub mod Meaning

@@ -1,5 +1,5 @@
 -- What a document says as a plan, or its first fault.
-use Rattle.std.specs.Prelude.{ℕ, ◌*◌, ◌^◌, nat_le, List, [], ◌∷◌, codes, length, Option, Some, None, Result, Ok, Err, ok_or, if◌then◌else◌}
+use Rattle.std.specs.Prelude.{ℕ, ◌*◌, ◌^◌, List, [], ◌∷◌, codes, Option, Some, None, Result, Ok, Err, ok_or}
 use Rattle.std.specs.Str.{bytes_eq}
 use Rattle.toml.specs.Data.{Data, Members}
 use Rattle.hsr_frame.specs.Cases.{first_of}
@@ -11,7 +11,7 @@ use Rattle.hsr_plan_text.specs.Fallible.{at_spot, each}
 use Rattle.hsr_plan_text.specs.Network.{network_in}
 use Rattle.hsr_plan_text.specs.Streams.{stream_in}
 use Rattle.hsr_plan_text.specs.Events.{event_in}
-use Rattle.hsr_plan_text.specs.Plan.{Network, Outline, Plan, Stream}
+use Rattle.hsr_plan_text.specs.Plan.{Outline, Plan, Stream}
 use Rattle.hsr_toml.specs.Tables.{at_key, between, needed, optional, perhaps, tables, text, word}
 use Rattle.hsr_plan_text.specs.Fault.{faults}
 use Rattle.hsr_plan_text.specs.Tables.{hop, moment, only}
@@ -32,7 +32,7 @@ abbrev pub milliseconds : Key → Data → Result ℕ What
 milliseconds key d = between faults 0 (2 ^ 30) key d >>= λ n. Ok (n * 1000)
 
 abbrev pub top_keys : List Key
-top_keys = key.Title ∷ key.Ring ∷ key.Rings ∷ key.RedBox ∷ key.Address ∷ key.Mode ∷ key.Capacity ∷ key.Life ∷ key.Until ∷ key.Moves ∷ key.Hop ∷ key.Stream ∷ key.Event ∷ []
+top_keys = key.Title ∷ key.Ring ∷ key.Rings ∷ key.RedBox ∷ key.Address ∷ key.Mode ∷ key.Capacity ∷ key.Life ∷ key.Until ∷ key.Epoch ∷ key.Moves ∷ key.Hop ∷ key.Stream ∷ key.Event ∷ []
 
 -- ---- how copies move
 
@@ -71,9 +71,10 @@ outline ms = do
   capacity ← optional faults key.Capacity 64 (between faults 1 4096) ms
   life ← optional faults key.Life 2000000 milliseconds ms
   until ← optional faults key.Until None (perhaps moment) ms
+  epoch ← optional faults key.Epoch 0 (between faults 0 4294967295) ms
   moves ← moves_in ms
   network ← network_in ms
-  Ok (record { title = title; capacity = capacity; life = life; until = until; moves = moves; network = network })
+  Ok (record { title = title; capacity = capacity; life = life; until = until; epoch = epoch; moves = moves; network = network })
 
 abbrev pub streams_in : Members → Result (List Stream) PlanFault
 streams_in ms = at_spot spot.Top (optional faults key.Stream [] (tables faults) ms) >>= each spot.Stream stream_in []

@@ -5,6 +5,9 @@ use Rattle.hsr_plan_text.specs.declared.plan.Event.{Event}
 use Rattle.hsr_plan_text.specs.declared.plan.Framing.{Framing}
 use Rattle.hsr_plan_text.specs.declared.plan.InMode.{InMode}
 use Rattle.hsr_plan_text.specs.declared.plan.Moves.{Moves}
+use Rattle.hsr_plan_text.specs.declared.plan.Pace.{Pace}
+use Rattle.hsr_plan_text.specs.declared.plan.SampleRate.{SampleRate}
+use Rattle.hsr_plan_text.specs.declared.plan.SampleRate.TheVariants.{Rate4000, Rate4800, Rate12800, Rate14400}
 
 pub record Behind : Type 0 where
   pub redbox : List ℕ
@@ -16,12 +19,18 @@ pub record Network : Type 0 where
   pub addresses : List Addressed
   pub modes : List InMode
 
+abbrev pub per_second : SampleRate → ℕ
+per_second Rate4000 = 4000
+per_second Rate4800 = 4800
+per_second Rate12800 = 12800
+per_second Rate14400 = 14400
+
 -- in microseconds
 pub record Timing : Type 0 where
   pub starts : List ℕ
-  pub every : ℕ
-  pub grow : ℕ
-  pub most : ℕ
+  pub pace : Pace
+  -- how many samples a frame of sampled values has
+  pub asdus : ℕ
   pub count : Option ℕ
   pub until : Option ℕ
 
@@ -35,6 +44,8 @@ pub record Outline : Type 0 where
   pub capacity : ℕ
   pub life : ℕ
   pub until : Option ℕ
+  -- the moment 0, in seconds since 1970
+  pub epoch : ℕ
   pub moves : Moves
   pub network : Network
 

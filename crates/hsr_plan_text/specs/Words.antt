@@ -1,5 +1,5 @@
 -- The words that texts of a plan spell.
-use Rattle.std.specs.Prelude.{ℕ, ◌==◌, ◌&&◌, not, nat_le, Bool, List, [], ◌∷◌, codes, Option, Some, None, option_map, if◌then◌else◌}
+use Rattle.std.specs.Prelude.{ℕ, ◌==◌, ◌&&◌, ◌||◌, not, nat_lt, nat_le, Bool, List, [], ◌∷◌, codes, length, Option, Some, None, option_map, if◌then◌else◌}
 use Rattle.std.specs.List.{list_all}
 use Rattle.std.specs.Str.{bytes_eq}
 use Rattle.hsr_frame.specs.Cases.{first_of}
@@ -45,6 +45,30 @@ moves_of s = first_of ((bytes_eq s (codes "each send drains"), Some EachSendDrai
 
 abbrev pub kind_named : List ℕ → Option Kind
 kind_named s = first_of ((bytes_eq s (codes "goose"), Some Goose) ∷ (bytes_eq s (codes "sv"), Some SampledValues) ∷ []) None
+
+-- ---- names that receivers know
+
+-- a letter, a digit or a low line
+abbrev pub is_element_octet : ℕ → Bool
+is_element_octet b = (nat_le 97 b && nat_le b 122) || ((nat_le 65 b && nat_le b 90) || ((nat_le 48 b && nat_le b 57) || b == 95))
+
+-- the name of a control block or a data set: 1 to 32 of these
+abbrev pub is_element : List ℕ → Bool
+is_element s = list_all is_element_octet s && (nat_lt 0 (length s) && nat_le (length s) 32)
+
+abbrev pub element_of : List ℕ → Option (List ℕ)
+element_of s = if is_element s then Some s else None
+
+-- a visible character of ASCII
+abbrev pub is_visible : ℕ → Bool
+is_visible b = nat_le 33 b && nat_le b 126
+
+-- an id: 1 to 65 of these
+abbrev pub is_id : List ℕ → Bool
+is_id s = list_all is_visible s && (nat_lt 0 (length s) && nat_le (length s) 65)
+
+abbrev pub id_of : List ℕ → Option (List ℕ)
+id_of s = if is_id s then Some s else None
 
 -- ---- titles and targets
 

@@ -23,6 +23,7 @@ pub enum Key {
     Life,
     /// Written `until_us`.
     Until,
+    Epoch,
     Moves,
     /// Written `hop_us`.
     Hop,
@@ -35,6 +36,12 @@ pub enum Key {
     Size,
     Vlan,
     Priority,
+    Appid,
+    /// Written `control_block`.
+    ControlBlock,
+    Id,
+    /// Written `data_set`.
+    DataSet,
     /// Written `start_us`.
     Start,
     /// Written `every_us`.
@@ -43,6 +50,9 @@ pub enum Key {
     Grow,
     /// Written `most_us`.
     Most,
+    /// Written `smp_rate`.
+    SampleRate,
+    Asdus,
     /// Written `at_us`.
     At,
     Cut,
@@ -94,6 +104,7 @@ impl Key {
             Key::Capacity => "capacity",
             Key::Life => "life_ms",
             Key::Until => "until_us",
+            Key::Epoch => "epoch",
             Key::Moves => "moves",
             Key::Hop => "hop_us",
             Key::Stream => "stream",
@@ -104,11 +115,17 @@ impl Key {
             Key::Size => "size",
             Key::Vlan => "vlan",
             Key::Priority => "priority",
+            Key::Appid => "appid",
+            Key::ControlBlock => "control_block",
+            Key::Id => "id",
+            Key::DataSet => "data_set",
             Key::Start => "start_us",
             Key::Every => "every_us",
             Key::Count => "count",
             Key::Grow => "grow",
             Key::Most => "most_us",
+            Key::SampleRate => "smp_rate",
+            Key::Asdus => "asdus",
             Key::At => "at_us",
             Key::Cut => "cut",
             Key::Mend => "mend",
@@ -154,6 +171,10 @@ pub enum Refusal {
     TooLate(Key),
     /// The size is below the shortest payload that there is, which has this number of octets.
     TooSmall(usize),
+    /// The shortest payload that there is has this number of octets, more than a frame takes.
+    TooLong(usize),
+    /// The APPID of a stream's sender is another's, or there is none left for it.
+    AppidTaken,
     /// An event changes nothing, or a key of the plan.
     Idle(Key),
     /// The key stands beside another in place of which it may stand.

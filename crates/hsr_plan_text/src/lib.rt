@@ -7,6 +7,7 @@
 //! - `table`: which keys a table may have, and the moments and gaps of a plan
 //! - `words`: the words that texts of a plan spell
 //! - `network`: what the keys of a plan say of its nodes
+//! - `publishing`: by what receivers know a stream
 //! - `streams`: the streams of a plan
 //! - `events`: the events of a plan
 //! - `reading`: how a text is read as a plan
@@ -16,6 +17,7 @@ mod events;
 mod fault;
 mod network;
 mod plan;
+mod publishing;
 mod reading;
 mod streams;
 mod table;
@@ -25,8 +27,8 @@ mod words;
 pub use fault::{Key, PlanFault, Refusal, Spot, What};
 pub use hsr_toml::TEXT_LIMIT;
 pub use plan::{
-    Addressed, Behind, Deed, Event, Framing, InMode, Kind, LinkEnd, Moves, Network, Outline, Plan,
-    Ring, Stream, Target, Timing,
+    Addressed, Behind, Deed, Event, Framing, InMode, Kind, LinkEnd, Moves, Naming, Network,
+    Outline, Pace, Plan, Ring, SampleRate, Stream, Target, Timing,
 };
 pub use reading::read;
 pub use word::Word;

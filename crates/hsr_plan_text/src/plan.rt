@@ -1,4 +1,7 @@
 //! What a plan says.
+ghost use Rattle.std.specs.Prelude.{◌≡◌, ◌≤◌};
+ghost use Rattle.hsr_plan_text.specs.Plan.{per_second};
+
 use crate::word::Word;
 use hsr_frame::{Mac, Mode};
 use std::marker::Model;
@@ -92,24 +95,68 @@ pub enum Kind {
     Number(u16),
 }
 
-/// What each frame of a stream has alike: its target, its kind, its size in octets of payload, and the control information of
-/// its VLAN tag.
+/// By what receivers know a stream of GOOSE or sampled values, as far as it is said: the APPID of its first sender, the names of
+/// the control block and the data set in each sender, and goID or svID.
+#[derive(Debug, Drop)]
+pub struct Naming {
+    pub appid: Option<u64>,
+    pub control_block: Option<Word>,
+    pub id: Option<Word>,
+    pub data_set: Option<Word>,
+}
+
+/// What each frame of a stream has alike: its target, its kind, its size in octets of payload, the control information of
+/// its VLAN tag, and its names.
 #[derive(Debug, Drop)]
 pub struct Framing {
     pub target: Target,
     pub kind: Kind,
     pub size: usize,
     pub tag: Option<u16>,
+    pub naming: Naming,
 }
 
-/// When a stream's frames are sent, in microseconds: from each start on, the first gap, by how much a gap is longer than the
-/// one before, the longest gap, and how many are sent from each start on, or up to when.
+/// How many samples there are a second: 80 or 256 a period of 50 or 60 Hz, and the rates of IEC 61869-9.
+#[derive(Clone, Copy, Debug, PartialEq, Eq)]
+pub enum SampleRate {
+    Rate4000,
+    Rate4800,
+    Rate12800,
+    Rate14400,
+}
+
+impl SampleRate {
+    /// The rate as a number.
+    pub fn per_second(self) -> u64
+        ensures value { result ≡ per_second self }
+        ensures some { 4000 ≤ result }
+        ensures most { result ≤ 14400 }
+    {
+        match self {
+            SampleRate::Rate4000 => 4000,
+            SampleRate::Rate4800 => 4800,
+            SampleRate::Rate12800 => 12800,
+            SampleRate::Rate14400 => 14400,
+        }
+    }
+}
+
+/// How a stream's frames follow each other from a start on.
+#[derive(Clone, Copy, Debug, PartialEq, Eq)]
+pub enum Pace {
+    /// By gaps in microseconds: the first, by how much a gap is longer than the one before, and the longest.
+    Gaps { every: u64, grow: u64, most: u64 },
+    /// As samples do of which there are so many a second.
+    Samples(SampleRate),
+}
+
+/// When a stream's frames are sent, in microseconds: from each start on, at what pace, how many samples each has, and how many
+/// frames are sent from each start on, or up to when.
 #[derive(Debug, Drop)]
 pub struct Timing {
     pub starts: Vec<u64>,
-    pub every: u64,
-    pub grow: u64,
-    pub most: u64,
+    pub pace: Pace,
+    pub asdus: u8,
     pub count: Option<u64>,
     pub until: Option<u64>,
 }
@@ -119,7 +166,7 @@ impl Model for Timing {
 
     ghost Value = { Timing };
 
-    ghost view = { λ t. record { starts = t.starts.items; every = t.every; grow = t.grow; most = t.most; count = t.count; until = t.until } };
+    ghost view = { λ t. record { starts = t.starts.items; pace = t.pace; asdus = t.asdus; count = t.count; until = t.until } };
 }
 
 /// Frames that each of some nodes sends again and again.
@@ -174,6 +221,8 @@ pub struct Outline {
     pub life: u64,
     /// Where streams and supervision end, in microseconds.
     pub until: Option<u64>,
+    /// The moment 0, in seconds since 1970.
+    pub epoch: u64,
     pub moves: Moves,
     pub network: Network,
 }
@@ -184,7 +233,7 @@ impl Model for Outline {
 
     ghost Value = { Outline };
 
-    ghost view = { λ o. record { title = option_map string_bytes o.title; capacity = o.capacity; life = o.life; until = o.until; moves = o.moves; network = o.network } };
+    ghost view = { λ o. record { title = option_map string_bytes o.title; capacity = o.capacity; life = o.life; until = o.until; epoch = o.epoch; moves = o.moves; network = o.network } };
 }
 
 /// What a text says as a plan.

@@ -34,6 +34,9 @@ const CAPACITY_LIMIT: u64 = 4096;
 /// The longest period of supervision, in milliseconds.
 const LIFE_LIMIT: u64 = 1 << 30;
 
+/// The last second since 1970 that four octets tell.
+const EPOCH_LIMIT: u64 = (1 << 32) - 1;
+
 /// A fault with its place.
 fn at_spot<T>(spot: Spot, told: Result<T, What>) -> Result<T, PlanFault>
     ensures { result ≡ at_spot spot told }
@@ -165,6 +168,15 @@ fn life(table: &Table) -> Result<u64, What>
     }
 }
 
+/// The moment 0 of a document, in seconds since 1970.
+fn epoch(table: &Table) -> Result<u64, What>
+    ensures { Gives (λ n. n) result (optional faults key.Epoch 0 (between faults 0 4294967295)
+        (table_view table.now)) }
+{
+    // A time of IEC 61850-8-1 tells seconds in four octets.
+    number_or(0, 0, EPOCH_LIMIT, table, Key::Epoch)
+}
+
 // ---- how copies move
 
 /// How long a hop takes, in microseconds.
@@ -231,7 +243,7 @@ fn moves(table: &Table) -> Result<Moves, What>
 // ---- the document
 
 /// The keys of a document.
-const TOP_KEYS: [Key; 13] = [
+const TOP_KEYS: [Key; 14] = [
     Key::Title,
     Key::Ring,
     Key::Rings,
@@ -241,6 +253,7 @@ const TOP_KEYS: [Key; 13] = [
     Key::Capacity,
     Key::Life,
     Key::Until,
+    Key::Epoch,
     Key::Moves,
     Key::Hop,
     Key::Stream,
@@ -258,6 +271,7 @@ fn outline(alloc: Global, table: &Table) -> Result<Outline, What>
     let capacity = capacity(table)?;
     let life = life(table)?;
     let until = until(table)?;
+    let epoch = epoch(table)?;
     let moves = moves(table)?;
     let network = network(alloc, table)?;
     Ok(Outline {
@@ -265,6 +279,7 @@ fn outline(alloc: Global, table: &Table) -> Result<Outline, What>
         capacity,
         life,
         until,
+        epoch,
         moves,
         network,
     })
@@ -318,7 +333,7 @@ fn text_fault(fault: NoDocument) -> PlanFault
 }
 
 /// The plan that a text is: a document of TOML, of at most 16 MiB, with the keys `title`, `ring` or `rings` (by their keys),
-/// `redbox`, `address`, `mode`, `capacity` (1 to 4096, 64 where it is missing), `life_ms` (2000), `until_us`, `moves`, `hop_us`, and `stream`
+/// `redbox`, `address`, `mode`, `capacity` (1 to 4096, 64 where it is missing), `life_ms` (2000), `until_us`, `epoch` (0), `moves`, `hop_us`, and `stream`
 /// and `event`, arrays of tables. A fault is the first in this order: the text itself; a key that the document doesn't have; its own
 /// values; streams, then events, by number. Within a table comes a key that it doesn't have, and then key by key what is missing, of
 /// another type or out of its values. `NoMemory` comes where a growth was refused, in place of any other answer. Whether names are

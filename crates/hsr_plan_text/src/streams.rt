@@ -3,8 +3,8 @@ ghost use Rattle.std.specs.Prelude.{◌≡◌, ◌≤◌, ◌∷◌, ◌^◌, []
 ghost use Rattle.toml.specs.View.{items_view, view, table_view};
 ghost use Rattle.hsr_toml.specs.Fallible.{guard};
 ghost use Rattle.hsr_plan_text.specs.Fallible.{Gives};
-ghost use Rattle.hsr_plan_text.specs.Streams.{comes_after, few_names, framing_in, how_many, kind, least_size, moments, numbered, only_name, rises, rising, senders, some_few, some_moments, stream_in, tag_in, tag_of, timing_in, usual_size};
-ghost use Rattle.hsr_toml.specs.Tables.{between, needed, optional, perhaps, word};
+ghost use Rattle.hsr_plan_text.specs.Streams.{asdus_in, comes_after, few_names, framing_in, gaps_in, how_many, kind, least_size, moments, no_gap_at, no_gaps, numbered, only_name, pace_in, perhaps_tag, rate, rate_of, rises, rising, senders, some_few, some_moments, stream_in, tag_in, tag_of, tag_with, timing_in, usual_size};
+ghost use Rattle.hsr_toml.specs.Tables.{at_key, between, needed, optional, perhaps, word};
 ghost use Rattle.hsr_plan_text.specs.Fault.{faults};
 ghost use Rattle.hsr_plan_text.specs.Tables.{gap, moment};
 ghost use Rattle.hsr_toml.specs.Names.{name_of};
@@ -13,9 +13,10 @@ ghost use Rattle.hsr_plan_text.specs.declared.plan.Target.TheVariants.{Named};
 ghost use Rattle.hsr_plan_text.specs.declared.fault.Key.TheVariants as key;
 ghost use Rattle.hsr_plan_text.specs.declared.fault.What.TheVariants.{BadValue};
 
-use crate::fault::{Key, What};
+use crate::fault::{Key, Refusal, What};
 use crate::network::{name_in, names_of};
-use crate::plan::{Framing, Kind, Stream, Target, Timing};
+use crate::plan::{Framing, Kind, Pace, SampleRate, Stream, Target, Timing};
+use crate::publishing::{is_sampled, naming, only_where};
 use crate::table::{LAST, gap, moment, only};
 use crate::word::Word;
 use crate::words::kind_named;
@@ -26,6 +27,9 @@ use toml::{Table, Value};
 
 /// The most names in a list of senders.
 const SENDER_LIMIT: usize = 4096;
+
+/// The most samples in a frame.
+const ASDU_LIMIT: u64 = 8;
 
 // ---- who sends it
 
@@ -191,30 +195,51 @@ fn perhaps(table: &Table, key: Key, least: u64, most: u64) -> Result<Option<u64>
     }
 }
 
-/// The control information of a VLAN tag.
-fn tag_of(vlan: Option<u64>, priority: Option<u64>) -> Option<u16>
+/// The control information of a VLAN tag, with that priority where none is said.
+fn tag_with(usual: u64, vlan: Option<u64>, priority: Option<u64>) -> u16
+    requires usual { usual ≤ 7 }
     requires vlan { IfSome vlan (λ n. n ≤ 4095) }
     requires priority { IfSome priority (λ n. n ≤ 7) }
-    ensures { result ≡ tag_of vlan priority }
+    ensures { result ≡ tag_with usual vlan priority }
+{
+    // Priority in the upper 3 bits, the VLAN in the lower 12; the bit between them is 0 (IEEE 802.1Q clause 9).
+    let tag = 8192 * priority.unwrap_or(usual) + vlan.unwrap_or(0);
+    tag as u16
+}
+
+/// The control information of a VLAN tag, if something is said of it.
+fn perhaps_tag(vlan: Option<u64>, priority: Option<u64>) -> Option<u16>
+    requires vlan { IfSome vlan (λ n. n ≤ 4095) }
+    requires priority { IfSome priority (λ n. n ≤ 7) }
+    ensures { result ≡ perhaps_tag vlan priority }
 {
     match (vlan, priority) {
         (None, None) => None,
-        (vlan, priority) => {
-            // Priority in the upper 3 bits, the VLAN in the lower 12; the bit between them is 0 (IEEE 802.1Q clause 9).
-            let tag = 8192 * priority.unwrap_or(0) + vlan.unwrap_or(0);
-            Some(tag as u16)
-        }
+        (vlan, priority) => Some(tag_with(0, vlan, priority)),
     }
 }
 
-/// The VLAN tag of a stream.
+/// The control information of the VLAN tag of a kind of frames.
+fn tag_of(kind: Kind, vlan: Option<u64>, priority: Option<u64>) -> Option<u16>
+    requires vlan { IfSome vlan (λ n. n ≤ 4095) }
+    requires priority { IfSome priority (λ n. n ≤ 7) }
+    ensures { result ≡ tag_of kind vlan priority }
+{
+    match kind {
+        // The default of IEC 61850-8-1 and 9-2: a tag of VLAN 0 with priority 4.
+        Kind::Goose | Kind::SampledValues => Some(tag_with(4, vlan, priority)),
+        Kind::Number(_) => perhaps_tag(vlan, priority),
+    }
+}
+
+/// The VLAN tag of a stream of a kind.
 #[tactic(auto, unfolding(crate::specs::Streams::tag_in))]
-fn tag(table: &Table) -> Result<Option<u16>, What>
-    ensures { Gives (λ t. t) result (tag_in (table_view table.now)) }
+fn tag(kind: Kind, table: &Table) -> Result<Option<u16>, What>
+    ensures { Gives (λ t. t) result (tag_in kind (table_view table.now)) }
 {
     let vlan = perhaps(table, Key::Vlan, 0, 4095)?;
     let priority = perhaps(table, Key::Priority, 0, 7)?;
-    Ok(tag_of(vlan, priority))
+    Ok(tag_of(kind, vlan, priority))
 }
 
 /// What a stream's frames have alike.
@@ -225,12 +250,14 @@ fn framing(alloc: Global, table: &Table) -> Result<Framing, What>
     let target = target(alloc, table)?;
     let kind = kind(table)?;
     let size = size(kind, table)?;
-    let tag = tag(table)?;
+    let tag = tag(kind, table)?;
+    let naming = naming(alloc, kind, table)?;
     Ok(Framing {
         target,
         kind,
         size,
         tag,
+        naming,
     })
 }
 
@@ -342,6 +369,86 @@ fn most(table: &Table) -> Result<u64, What>
     number_or(LAST, 1, LAST, table, Key::Most)
 }
 
+/// The gaps of a stream.
+#[tactic(auto, unfolding(crate::specs::Streams::gaps_in))]
+fn gaps(table: &Table) -> Result<Pace, What>
+    ensures { Gives (λ p. p) result (gaps_in (table_view table.now)) }
+{
+    let every = every(table)?;
+    let grow = grow(table)?;
+    let most = most(table)?;
+    Ok(Pace::Gaps { every, grow, most })
+}
+
+/// The rate of samples that is that number.
+fn rate_of(number: u64) -> Option<SampleRate>
+    ensures { result ≡ rate_of number }
+{
+    match number {
+        4000 => Some(SampleRate::Rate4000),
+        4800 => Some(SampleRate::Rate4800),
+        12800 => Some(SampleRate::Rate12800),
+        14400 => Some(SampleRate::Rate14400),
+        _ => None,
+    }
+}
+
+/// The rate of samples that a value tells.
+fn rate(key: Key, value: &Value) -> Result<SampleRate, What>
+    ensures { Gives (λ r. r) result (rate key (view value.now)) }
+{
+    let number = between(4000, 14400, key, value)?;
+    match rate_of(number) {
+        Some(rate) => Ok(rate),
+        None => Err(What::BadValue(key)),
+    }
+}
+
+/// Refuses a key that tells of gaps.
+fn no_gap_at(table: &Table, key: Key) -> Result<(), What>
+    ensures { Gives (λ u. u) result (no_gap_at key (at_key faults key (table_view table.now))) }
+{
+    match value(table, key) {
+        None => Ok(()),
+        Some(_) => Err(What::Refused(Refusal::Together(key))),
+    }
+}
+
+/// Refuses keys that tell of gaps.
+#[tactic(auto, unfolding(crate::specs::Streams::no_gaps))]
+fn no_gaps(table: &Table) -> Result<(), What>
+    ensures { Gives (λ u. u) result (no_gaps (table_view table.now)) }
+{
+    no_gap_at(table, Key::Every)?;
+    no_gap_at(table, Key::Grow)?;
+    no_gap_at(table, Key::Most)?;
+    Ok(())
+}
+
+/// The pace of a stream of a kind.
+fn pace(kind: Kind, table: &Table) -> Result<Pace, What>
+    ensures { Gives (λ p. p) result (pace_in kind (table_view table.now)) }
+{
+    only_where(is_sampled(kind), Key::SampleRate, table)?;
+    match value(table, Key::SampleRate) {
+        None => gaps(table),
+        Some(value) => {
+            let rate = rate(Key::SampleRate, value)?;
+            no_gaps(table)?;
+            Ok(Pace::Samples(rate))
+        }
+    }
+}
+
+/// How many samples a frame of a stream of a kind has.
+fn asdus(kind: Kind, table: &Table) -> Result<u8, What>
+    ensures { Gives (λ n. n) result (asdus_in kind (table_view table.now)) }
+{
+    only_where(is_sampled(kind), Key::Asdus, table)?;
+    let asdus = number_or(1, 1, ASDU_LIMIT, table, Key::Asdus)?;
+    Ok(asdus as u8)
+}
+
 /// The moment of a key that may be left out.
 pub(crate) fn until(table: &Table) -> Result<Option<u64>, What>
     ensures { Gives (λ n. n) result (optional faults key.Until None (perhaps moment)
@@ -352,20 +459,18 @@ pub(crate) fn until(table: &Table) -> Result<Option<u64>, What>
 
 /// When a stream's frames are sent.
 #[tactic(auto, unfolding(crate::specs::Streams::timing_in))]
-fn timing(alloc: Global, table: &Table) -> Result<Timing, What>
-    ensures { Gives (λ t. t) result (timing_in (table_view table.now)) }
+fn timing(alloc: Global, kind: Kind, table: &Table) -> Result<Timing, What>
+    ensures { Gives (λ t. t) result (timing_in kind (table_view table.now)) }
 {
     let starts = starts(alloc, table)?;
-    let every = every(table)?;
-    let grow = grow(table)?;
-    let most = most(table)?;
+    let pace = pace(kind, table)?;
+    let asdus = asdus(kind, table)?;
     let count = perhaps(table, Key::Count, 1, LAST)?;
     let until = until(table)?;
     Ok(Timing {
         starts,
-        every,
-        grow,
-        most,
+        pace,
+        asdus,
         count,
         until,
     })
@@ -374,17 +479,23 @@ fn timing(alloc: Global, table: &Table) -> Result<Timing, What>
 // ---- all
 
 /// The keys of a stream.
-const STREAM_KEYS: [Key; 12] = [
+const STREAM_KEYS: [Key; 18] = [
     Key::From,
     Key::To,
     Key::Kind,
     Key::Size,
     Key::Vlan,
     Key::Priority,
+    Key::Appid,
+    Key::ControlBlock,
+    Key::Id,
+    Key::DataSet,
     Key::Start,
     Key::Every,
     Key::Grow,
     Key::Most,
+    Key::SampleRate,
+    Key::Asdus,
     Key::Count,
     Key::Until,
 ];
@@ -404,7 +515,7 @@ pub(crate) fn stream(alloc: Global, table: &Table) -> Result<Stream, What>
     only(alloc, table, &STREAM_KEYS)?;
     let from = from(alloc, table)?;
     let framing = framing(alloc, table)?;
-    let timing = timing(alloc, table)?;
+    let timing = timing(alloc, framing.kind, table)?;
     Ok(Stream {
         from,
         framing,

@@ -1,6 +1,7 @@
 //! The words that texts of a plan spell.
 ghost use Rattle.std.specs.Prelude.{◌≡◌, option_map};
-ghost use Rattle.hsr_plan_text.specs.Words.{hop_of, is_title, kind_named, last_number, moves_of};
+ghost use Rattle.std.specs.List.{list_all};
+ghost use Rattle.hsr_plan_text.specs.Words.{hop_of, is_element, is_element_octet, is_id, is_title, is_visible, kind_named, last_number, moves_of};
 ghost use Rattle.hsr_plan_text.specs.declared.plan.Moves.TheVariants.{Hop};
 
 use crate::plan::{Kind, Moves};
@@ -15,6 +16,54 @@ pub(crate) fn is_title(text: &[u8]) -> bool
 {
     // Octets from 128 on are parts of letters, and stay.
     text.iter().all(|b| *b >= 32 && *b != 127)
+}
+
+/// The most octets of the name of a control block or a data set.
+const ELEMENT_LIMIT: usize = 32;
+
+/// The most octets of an id.
+const ID_LIMIT: usize = 65;
+
+/// Whether the name of a control block or a data set may have that octet.
+fn is_element_octet(b: u8) -> bool
+    ensures { result ≡ is_element_octet b }
+{
+    b.is_ascii_lowercase() || b.is_ascii_uppercase() || b.is_ascii_digit() || b == b'_'
+}
+
+/// Whether the name of a control block or a data set may have these octets.
+fn are_element_octets(text: &[u8]) -> bool
+    ensures { result ≡ list_all is_element_octet text.now }
+{
+    text.iter().all(|b| is_element_octet(*b))
+}
+
+/// Whether a text is a name of a control block or a data set.
+pub(crate) fn is_element(text: &[u8]) -> bool
+    ensures { result ≡ is_element text.now }
+{
+    are_element_octets(text) && !text.is_empty() && text.len() <= ELEMENT_LIMIT
+}
+
+/// Whether an octet is a visible character.
+fn is_visible(b: u8) -> bool
+    ensures { result ≡ is_visible b }
+{
+    b >= 33 && b <= 126
+}
+
+/// Whether octets are visible characters.
+fn are_visible(text: &[u8]) -> bool
+    ensures { result ≡ list_all is_visible text.now }
+{
+    text.iter().all(|b| is_visible(*b))
+}
+
+/// Whether a text is an id.
+pub(crate) fn is_id(text: &[u8]) -> bool
+    ensures { result ≡ is_id text.now }
+{
+    are_visible(text) && !text.is_empty() && text.len() <= ID_LIMIT
 }
 
 /// The number that is the last word.
