@@ -72,7 +72,6 @@ class Published:
         whole = b""
         for number in range(count * asdus, count * asdus + asdus):
             fields = [(0x80, said), (0x81, data), (0x82, (number % (rate or 4000)).to_bytes(2, "big")), (0x83, b"\0\0\0\1"), (0x85, b"\2")]
-            fields += [(0x86, rate.to_bytes(2, "big"))] if rate else []
             whole += field(0x30, b"".join(field(tag, value) for tag, value in [*fields, (0x87, bytes(64 + 8 * spare))]))
         return field(0x60, field(0x80, bytes([asdus])) + field(0xA2, whole))
 

@@ -45,17 +45,13 @@ sample_count rate n = n % unwrap_or rate 4000
 abbrev pub sampled_head : Publisher → ℕ → List ℕ
 sampled_head p count = tagged 0x80 (id_of p) ++ (tagged 0x81 (set_reference p) ++ (tagged 0x82 (pair count) ++ tagged 0x83 (four 1)))
 
-abbrev pub sample_rate : Option ℕ → List ℕ
-sample_rate None = []
-sample_rate (Some rate) = tagged 0x86 (pair rate)
-
 -- synchronized to a global clock
-abbrev pub sampled_data : Option ℕ → ℕ → List ℕ
-sampled_data rate spare = tagged 0x85 (2 ∷ []) ++ (sample_rate rate ++ tagged 0x87 (replicate (64 + 8 * spare) 0))
+abbrev pub sampled_data : ℕ → List ℕ
+sampled_data spare = tagged 0x85 (2 ∷ []) ++ tagged 0x87 (replicate (64 + 8 * spare) 0)
 
 -- the n-th sample since the start
 abbrev pub sampled_asdu : Publisher → Option ℕ → ℕ → ℕ → List ℕ
-sampled_asdu p rate n spare = tagged 0x30 (sampled_head p (sample_count rate n) ++ sampled_data rate spare)
+sampled_asdu p rate n spare = tagged 0x30 (sampled_head p (sample_count rate n) ++ sampled_data spare)
 
 -- n samples, before which there are `first` since the start
 abbrev pub sampled_asdus : Publisher → Option ℕ → ℕ → ℕ → ℕ → List ℕ

@@ -1,6 +1,6 @@
 //! The payload of sampled values (IEC 61850-9-2).
 ghost use Rattle.std.specs.Prelude.{◌≡◌, ◌++◌, ◌*◌, ◌+◌, ◌<◌, ◌≤◌, ◌^◌, IfOk, IfSome, OnOk};
-ghost use Rattle.hsr_plan_payload.specs.Payload.{sample_count, sample_rate, sampled, sampled_asdu, sampled_asdus, sampled_data, sampled_head};
+ghost use Rattle.hsr_plan_payload.specs.Payload.{sample_count, sampled, sampled_asdu, sampled_asdus, sampled_data, sampled_head};
 
 use crate::ber::{put_four, put_integer, put_pair, put_tagged, put_tagged_zeros};
 use crate::frames::{Publisher, SampledFrame};
@@ -38,32 +38,13 @@ fn put_head(
     put_tagged(out, 0x83, revision.as_slice())
 }
 
-/// Puts the rate of samples behind others, where it is said.
-fn put_rate(alloc: Global, out: &mut Vec<u8>, rate: Option<usize>) -> Result<(), NoMemory>
-    ensures { OnOk result (out.new.items ≡ out.old.items ++ sample_rate rate) }
-{
-    match rate {
-        Some(rate) => {
-            let mut value = Vec::new(alloc);
-            put_pair(&mut value, rate)?;
-            put_tagged(out, 0x86, value.as_slice())
-        }
-        None => Ok(()),
-    }
-}
-
-/// Puts how a sample is synchronized, the rate, and its data behind others.
-fn put_data(
-    alloc: Global,
-    out: &mut Vec<u8>,
-    rate: Option<usize>,
-    spare: usize,
-) -> Result<(), NoMemory>
+/// Puts how a sample is synchronized, and its data, behind others.
+// No smpRate: it may be left out, and without smpMod behind it tells samples of a period, and none of a second.
+fn put_data(alloc: Global, out: &mut Vec<u8>, spare: usize) -> Result<(), NoMemory>
     requires { spare ≤ 65536 }
-    ensures { OnOk result (out.new.items ≡ out.old.items ++ sampled_data rate spare) }
+    ensures { OnOk result (out.new.items ≡ out.old.items ++ sampled_data spare) }
 {
     put_tagged(out, 0x85, &[2])?;
-    put_rate(alloc, out, rate)?;
     put_tagged_zeros(alloc, out, 0x87, 64 + 8 * spare)
 }
 
@@ -83,7 +64,7 @@ fn put_asdu(
 {
     let mut fields = Vec::new(alloc);
     put_head(alloc, &mut fields, publisher, sample_count(rate, number))?;
-    put_data(alloc, &mut fields, rate, spare)?;
+    put_data(alloc, &mut fields, spare)?;
     put_tagged(out, 0x30, fields.as_slice())
 }
 

@@ -11,7 +11,7 @@ ghost use Rattle.hsr_plan_text.specs.declared.fault.Key.TheVariants as key;
 ghost use Rattle.hsr_plan_text.specs.declared.plan.Switching.TheVariants.{Store};
 
 use crate::fault::{Key, Refusal, What};
-use crate::plan::{Moves, Transfer, Switching, Wire};
+use crate::plan::{Moves, Switching, Transfer, Wire};
 use crate::words::{HOP_LIMIT, moves_of, switching_of};
 use hsr_toml::{between, needed, number_or, text, value};
 use toml::{Table, Value};
@@ -50,10 +50,14 @@ fn without_hop(table: &Table, moves: Moves) -> Result<Moves, What>
     match (value(table, Key::Hop), moves) {
         (None, _) => Ok(moves),
         // Two ways to say one thing: which of them holds isn't guessed.
-        (Some(_), Moves::Timed(Transfer::Hop(_))) => { Err(What::Refused(Refusal::Together(Key::Hop))) }
+        (Some(_), Moves::Timed(Transfer::Hop(_))) => {
+            Err(What::Refused(Refusal::Together(Key::Hop)))
+        }
         // It would say nothing, and whoever wrote it thinks that copies move by hops.
-        (Some(_), Moves::EachSendDrains | Moves::EachMomentDrains | Moves::Timed(Transfer::Wire(_))) =>
-            Err(What::Refused(Refusal::Idle(Key::Hop))),
+        (
+            Some(_),
+            Moves::EachSendDrains | Moves::EachMomentDrains | Moves::Timed(Transfer::Wire(_)),
+        ) => Err(What::Refused(Refusal::Idle(Key::Hop))),
     }
 }
 

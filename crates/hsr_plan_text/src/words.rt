@@ -5,7 +5,7 @@ ghost use Rattle.hsr_plan_text.specs.Words.{hop_of, is_element, is_element_octet
 ghost use Rattle.hsr_plan_text.specs.declared.plan.Moves.TheVariants.{Timed};
 ghost use Rattle.hsr_plan_text.specs.declared.plan.Transfer.TheVariants.{Hop};
 
-use crate::plan::{Kind, Moves, Transfer, Switching};
+use crate::plan::{Kind, Moves, Switching, Transfer};
 use hsr_text::{decimal, word};
 
 /// The most microseconds from a copy's put to its judgement.
