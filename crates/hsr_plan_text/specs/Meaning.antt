@@ -1,5 +1,5 @@
 -- What a document says as a plan, or its first fault.
-use Rattle.std.specs.Prelude.{ℕ, ◌*◌, ◌^◌, nat_le, List, [], ◌∷◌, codes, length, Option, Some, None, Result, Ok, Err, ok_or, if◌then◌else◌}
+use Rattle.std.specs.Prelude.{ℕ, ◌*◌, ◌^◌, List, [], ◌∷◌, Option, Some, None, Result, Ok, Err}
 use Rattle.toml.specs.Data.{Data, Members}
 use Rattle.hsr_toml.specs.Documents.{document_of}
 use Rattle.hsr_toml.specs.declared.document.NoDocument.{NoDocument}
@@ -10,7 +10,7 @@ use Rattle.hsr_plan_text.specs.Moves.{moves_in}
 use Rattle.hsr_plan_text.specs.Network.{network_in}
 use Rattle.hsr_plan_text.specs.Streams.{stream_in}
 use Rattle.hsr_plan_text.specs.Events.{event_in}
-use Rattle.hsr_plan_text.specs.Plan.{Network, Outline, Plan, Stream}
+use Rattle.hsr_plan_text.specs.Plan.{Outline, Plan, Stream}
 use Rattle.hsr_toml.specs.Tables.{between, optional, perhaps, tables, word}
 use Rattle.hsr_plan_text.specs.Fault.{faults}
 use Rattle.hsr_plan_text.specs.Tables.{moment, only}

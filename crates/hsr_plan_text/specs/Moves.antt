@@ -17,9 +17,8 @@ use Rattle.hsr_plan_text.specs.declared.fault.Refusal.TheVariants.{Idle, Togethe
 use Rattle.hsr_plan_text.specs.declared.fault.What.{What}
 use Rattle.hsr_plan_text.specs.declared.fault.What.TheVariants.{BadValue, Refused}
 use Rattle.hsr_plan_text.specs.declared.plan.Moves.{Moves}
-use Rattle.hsr_plan_text.specs.declared.plan.Moves.TheVariants.{EachSendDrains, EachMomentDrains, Timed}
+use Rattle.hsr_plan_text.specs.declared.plan.Moves.TheVariants.{EachSendDrains, Timed}
 use Rattle.hsr_plan_text.specs.declared.plan.Switching.TheVariants.{Store}
-use Rattle.hsr_plan_text.specs.declared.plan.Transfer.{Transfer}
 use Rattle.hsr_plan_text.specs.declared.plan.Transfer.TheVariants as transfer
 use Rattle.hsr_plan_text.specs.declared.plan.Wire.{Wire}
 
