@@ -12,7 +12,7 @@ use Rattle.hsr_plan_text.specs.declared.fault.Refusal.TheVariants.{Endless, TooL
 use Rattle.hsr_plan_text.specs.declared.plan.Pace.{Pace}
 use Rattle.hsr_plan_text.specs.declared.plan.Pace.TheVariants.{Gaps, Samples}
 use Rattle.hsr_plan_text.specs.declared.plan.SampleRate.{SampleRate}
-use Rattle.hsr_plan_network.specs.Checks.{unless_held}
+use Rattle.hsr_plan_network.specs.Checks.{each_passes, unless_held}
 use Rattle.hsr_plan_network.specs.Nodes.{Node}
 use Rattle.hsr_plan_schedule.specs.Senders.{receives, sources, target}
 use Rattle.hsr_plan_schedule.specs.declared.occasion.Happening.TheVariants.{Life, Send}

@@ -29,7 +29,9 @@ pub(crate) fn age_limit(moves: Moves, links: &[[End; 2]]) -> Result<Option<u64>,
     ensures { IfOk result (λ limit. limit ≡ age_limit moves (length links.now)) }
 {
     match moves {
-        Moves::EachSendDrains | Moves::EachMomentDrains | Moves::Timed(Transfer::Wire(_)) => Ok(None),
+        Moves::EachSendDrains | Moves::EachMomentDrains | Moves::Timed(Transfer::Wire(_)) => Ok(
+            None,
+        ),
         Moves::Timed(Transfer::Hop(us)) => {
             // no plan that is read comes near these
             if us > HOP_LIMIT || links.len() > LINK_LIMIT {
