@@ -1,5 +1,6 @@
 //! Who sends, to whom, and who needs it.
-ghost use Rattle.std.specs.Prelude.{◌≡◌, [], Err, position, slice_get};
+ghost use Rattle.std.specs.List.{list_any};
+ghost use Rattle.std.specs.Prelude.{◌≡◌, [], Err, position, slice_get, ◌==◌, not};
 ghost use Rattle.hsr_plan_text.specs.Fallible.{Gives};
 ghost use Rattle.hsr_plan_text.specs.declared.fault.What.TheVariants.{Refused};
 ghost use Rattle.hsr_plan_text.specs.declared.fault.Refusal.TheVariants.{NoSuchName};
@@ -219,13 +220,19 @@ pub(crate) fn sources(
 
 // ---- receivers
 
+/// Whether a node other than this one is among the senders.
+fn has_other(senders: &[Sender], node: usize) -> bool
+    ensures { result ≡ list_any (λ s. not (s.node == node)) senders.now }
+{
+    senders.iter().any(|sender| sender.node != node)
+}
+
 /// Whether frames to that destination are due at an address of a node: it is the destination, or that is a group's; and
 /// another node is among the senders.
 fn is_due_at(senders: &[Sender], dst: Mac, receiver: Sender) -> bool
     ensures { result ≡ is_due_at senders.now dst receiver }
 {
-    (dst.is_group() || receiver.mac == dst)
-        && senders.iter().any(|sender| sender.node != receiver.node)
+    (dst.is_group() || receiver.mac == dst) && has_other(senders, receiver.node)
 }
 
 /// Refuses a name of nobody, or of who isn't due the frames of these senders.
