@@ -1,5 +1,5 @@
 //! What comes next, done until nothing is left to do.
-ghost use Rattle.std.specs.Prelude.{◌≡◌, ◌≤◌, ◌<◌, ◌∷◌, true, None, Some, IfErr, IfOk, OnOk};
+ghost use Rattle.std.specs.Prelude.{◌≡◌, ◌≤◌, ◌<◌, ◌∷◌, false, true, None, Some, IfErr, IfOk, OnOk};
 ghost use Rattle.hsr_duptable.specs.Table.{IsTableSize};
 ghost use Rattle.hsr_plan_hops.specs.Beginning.{DoesAll, next_copy};
 ghost use Rattle.hsr_plan_hops.specs.Flights.{is_to_come};

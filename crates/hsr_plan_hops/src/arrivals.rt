@@ -7,7 +7,7 @@ use crate::flights::{
 };
 use crate::turns::receiver;
 use hsr_link::Dir;
-use hsr_plan_text::{Transfer, Switching, Wire};
+use hsr_plan_text::{Switching, Transfer, Wire};
 use hsr_ring::World;
 use hsr_topology::{End, Topology};
 use std::marker::Model;
@@ -19,7 +19,7 @@ pub(crate) const HEAD_OCTETS: u64 = 22;
 #[derive(Drop)]
 pub(crate) struct Sight<'a, const C: usize> {
     pub(crate) topology: &'a Topology,
-    pub(crate) now: u64,
+    pub(crate) moment: u64,
     pub(crate) begun: bool,
     pub(crate) channels: &'a Channels,
     pub(crate) world: &'a World<C>,
@@ -30,7 +30,7 @@ impl<'a, const C: usize> Model for Sight<'a, C> {
 
     ghost Value = { Sight };
 
-    ghost view = { λ v. record { links = v.topology.now.links; now = v.now; begun = v.begun; channels = v.channels.now; world = v.world.now } };
+    ghost view = { λ v. record { links = v.topology.now.links; now = v.moment; begun = v.begun; channels = v.channels.now; world = v.world.now } };
 }
 
 /// Whether a moment isn't past; nor now, once something that is told was done now.
@@ -120,7 +120,7 @@ impl<'a, const C: usize> Sight<'a, C> {
         ensures { result ≡ is_cut_through self.now wire flight }
     {
         let at = head_at(wire, flight);
-        is_to_come(self.now, self.begun, at)
+        is_to_come(self.moment, self.begun, at)
             && self.is_way_free(at, receiver(self.topology.links(), flight.link, flight.dir))
     }
 
@@ -172,7 +172,12 @@ impl<'a, const C: usize> Sight<'a, C> {
     }
 
     /// The first of an arrival and of those of channels.
-    fn soonest(&self, transfer: Transfer, first: Option<Arrival>, channels: &[Channel]) -> Option<Arrival>
+    fn soonest(
+        &self,
+        transfer: Transfer,
+        first: Option<Arrival>,
+        channels: &[Channel],
+    ) -> Option<Arrival>
         ensures { result ≡ fold (sooner_on transfer self.now) first channels.now }
     {
         let mut next = first;

@@ -1,5 +1,5 @@
 //! What a plan means once its copies move.
-ghost use Rattle.std.specs.Prelude.{◌≡◌, IfErr, IfOk, OnOk};
+ghost use Rattle.std.specs.Prelude.{◌≡◌, IfErr, IfOk, OnOk, true};
 ghost use Rattle.hsr_duptable.specs.Table.{IsTableSize};
 ghost use Rattle.hsr_world_laws.specs.Lawful.{IsEnded, finished_of};
 ghost use Rattle.hsr_plan_text.specs.declared.plan.Moves.TheVariants.{Timed};
@@ -13,7 +13,7 @@ use crate::unmoved::Unmoved;
 use crate::weaving::Weaving;
 use hsr_finished_run::{CheckFault, Closed};
 use hsr_plan_schedule::{Meaning, meaning_of};
-use hsr_plan_text::{Moves, Transfer, Plan};
+use hsr_plan_text::{Moves, Plan, Transfer};
 use hsr_ring::World;
 use hsr_scenario::Order;
 use std::alloc::Global;
@@ -34,7 +34,11 @@ fn closed<const C: usize>(world: World<C>) -> Result<Closed<C>, Unmoved>
 }
 
 /// Refuses a world that isn't ended, and one in which a copy isn't judged when it has to be.
-fn check_end<const C: usize>(alloc: Global, transfer: Transfer, world: World<C>) -> Result<(), Unmoved>
+fn check_end<const C: usize>(
+    alloc: Global,
+    transfer: Transfer,
+    world: World<C>,
+) -> Result<(), Unmoved>
     ensures ok { OnOk result (EndsWell C transfer world.entry) }
     ensures err { IfErr result (EndsBadly C transfer world.entry) }
 {
@@ -56,7 +60,11 @@ fn is_bad(transfer: Transfer) -> bool
 }
 
 /// The orders that do what is told and move copies by hops or wires.
-fn ordered<const C: usize>(alloc: Global, told: &Meaning, transfer: Transfer) -> Result<Vec<Order>, Unmoved>
+fn ordered<const C: usize>(
+    alloc: Global,
+    told: &Meaning,
+    transfer: Transfer,
+) -> Result<Vec<Order>, Unmoved>
     requires entries { IsTableSize C }
     ensures ok { IfOk result (λ orders. MovesAtPace C transfer told.now orders.items) }
     ensures err { IfErr result (IsUnmovedAtPace C transfer told.now) }

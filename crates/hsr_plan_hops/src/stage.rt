@@ -42,7 +42,7 @@ impl<'a, const C: usize> Stage<'a, C> {
     {
         let sight = Sight {
             topology,
-            now: self.moment,
+            moment: self.moment,
             begun: self.begun,
             channels: &self.channels,
             world: &self.world,
