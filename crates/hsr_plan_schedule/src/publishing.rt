@@ -230,9 +230,14 @@ fn meets(one: &Publication, other: &Publication) -> bool
 }
 
 /// Whether some APPID is of one of these too.
+#[tactic(auto, using(crate::proofs::Meeting::none_met))]
 fn meets_any(publication: &Publication, earlier: &[Publication]) -> bool
     ensures { result ≡ list_any (meets publication.now) earlier.now }
 {
+    // What has no APPID is compared with none: of streams with other payloads there may be as many as a text says.
+    if publication.behind == 0 {
+        return false;
+    }
     earlier.iter().any(|other| meets(publication, other))
 }
 
