@@ -3,10 +3,10 @@
     python3 tests/second/random_plans.py PLANNER [COUNT [SEED [BENCH [SECONDS]]]]
 
 COUNT (1000) plans from SEED (1) on, or as many as SECONDS allow. Of each that is no fault: the comments are its title, and how many nodes,
-links and sends the scenario has, with the most sends in 800 ms; `--check` finds it right; the steps are those that the plan means, in order; model.py refuses none of them; and a RedBox sends supervision about a station just where the model's RedBox knows it then. With BENCH
+links and sends the scenario has, with the most sends in 800 ms; the capacity is the plan's own, or what it needs; `--check` finds it right; the steps are those that the plan means, in order; model.py refuses none of them; and a RedBox sends supervision about a station just where the model's RedBox knows it then. With BENCH
 the program plays the scenario too, and refuses no step. Each 20th plan is swept, and the lines compared with what model.py counts. About
-half of the plans move copies by hops: there each copy is put in the moment of the entry that passed it, and taken and judged just a hop
-later, before anything else happens at that moment. Of each that is a fault: the status is 1, nothing is written, and the line says why there
+half of the plans move copies by hops or wires: there each copy is put in the moment of the entry that passed it, and taken and judged just
+a hop later, or when its wires and nodes let it come, before anything else happens at that moment. Of each that is a fault: the status is 1, nothing is written, and the line says why there
 is none: the reason, or one of those, that this script finds by itself.
 
 What is excused:
@@ -15,8 +15,8 @@ What is excused:
 - A sweep is compared where it ends. Its line on a terminal isn't looked at.
 - With tables of fewer than 512 entries, which may forget, the bench may end a run as unsettled.
 
-The first difference is shown, with its plan, and ends it. The last line but one says how many plans were told, how many of these by hops,
-how many were swept, and how many were faults, each by its reason; the last how many passed and failed.
+The first difference is shown, with its plan, and ends it. The last line but one says how many plans were told, how many of these by hops
+or wires, how many were swept, and how many were faults, each by its reason; the last how many passed and failed.
 """
 import random
 import subprocess
@@ -68,6 +68,8 @@ def stream_of(chance, senders, targets):
         said |= {"smp_rate": chance.choice([4000, 4800, 12800, 14400])}
         for key in ("every_us", "grow", "most_us"):
             chance.random() < 0.99 and said.pop(key, None)
+    if chance.random() < 0.3:
+        said["for"] = chance.choice([said["to"] if said["to"] != GROUP else chance.choice(targets), chance.sample(targets, chance.randint(1, min(3, len(targets))))])
     if chance.random() < 0.03:
         said |= chance.choice([{"start_us": []}, {"start_us": [3, 2]}, {"count": 0}, {"from": []}])
     return said
@@ -105,9 +107,18 @@ def events_of(chance, rings, redboxes, until):
     return events
 
 
+def wires_of(chance):
+    """Keys of wires, some of them; rates that are slow for a plan are among them."""
+    said = {"rate_mbps": chance.choice([1, 2, 10, 100, 1000, 100000]), "residence_us": chance.choice([0, 1, 5, 300]), "switching": chance.choice(["store", "cut", "cut"])}
+    return {key: item for key, item in said.items() if chance.random() < 0.7}
+
+
 def moving_of(chance):
     """How copies move. Hops are told by two keys or by one; few are told wrong."""
     hop = chance.choice([1, chance.randint(1, 1500)])
+    if chance.random() < 0.3:
+        wrong = chance.random() < 0.05 and chance.choice([{"rate_mbps": 0}, {"residence_us": 1000001}, {"switching": "through"}, {"moves": "hops", "hop_us": hop}, {"hop_us": hop}])
+        return {"moves": "wire", **wires_of(chance), **(wrong or {})}
     if chance.random() < 0.03:
         return chance.choice([{"moves": "hops"}, {"hop_us": hop}, {"moves": "hops", "hop_us": 0}, {"moves": f"hop_us = {hop}", "hop_us": hop}])
     return chance.choice([{"moves": "each send drains"}, {"moves": "each moment drains"}, {"moves": "hops", "hop_us": hop}, {"moves": f"hop_us = {hop}"}])
@@ -174,6 +185,11 @@ def hop_of(plan):
     return plan.get("hop_us") if moves == "hops" else int(moves.split()[-1]) if moves.startswith("hop_us") else None
 
 
+def is_paced(plan):
+    """Whether copies move by hops or wires."""
+    return bool(hop_of(plan)) or plan.get("moves") == "wire"
+
+
 class Meaning:
     def __init__(self, plan):
         self.plan = plan
@@ -199,8 +215,23 @@ class Meaning:
         """The RedBox that a station is behind, or None."""
         return next((box for box in self.boxes if name in self.redboxes[box]), None)
 
+    def node(self, name):
+        """The node that a name is of: of a station its RedBox's Station."""
+        behind = self.behind(name)
+        return f"{behind}-sans" if behind else name
+
     def senders(self, stream):
         return stream["from"] if isinstance(stream["from"], list) else [stream["from"]]
+
+    def receivers(self, stream):
+        """Whom a stream is for, as its `for` says; nobody where there is none."""
+        said = stream.get("for", [])
+        return said if isinstance(said, list) else [said]
+
+    def is_off(self, node, at):
+        """Whether the last event about a node, at a moment or before, put it off."""
+        about = [event for event in self.plan.get("event", []) if event["at_us"] <= at and node in (event.get("off"), event.get("on"))]
+        return bool(about) and "off" in sorted(about, key=lambda event: event["at_us"])[-1]
 
     def reasons(self):
         """Why the plan may mean nothing, each by words of a fault's line."""
@@ -214,9 +245,13 @@ class Meaning:
         yield from published.reasons(self.plan) if all(stream["from"] and self.starts(stream) and self.is_paced(stream) for stream in self.plan.get("stream", [])) else ()
         for stream in self.plan.get("stream", []):
             target = stream["to"]
-            yield from (f"unknown name {name}:" for name in [*self.senders(stream), target] if name not in [*known, *self.couplers, GROUP])
-            yield from (f"{name} has no address:" for name in [*self.senders(stream), target] if name in self.couplers)
+            yield from (f"unknown name {name}:" for name in [*self.senders(stream), target, *self.receivers(stream)] if name not in [*known, *self.couplers, GROUP])
+            yield from (f"{name} has no address:" for name in [*self.senders(stream), target, *self.receivers(stream)] if name in self.couplers)
             yield from self.reasons_of_stream(stream)
+            for name in self.receivers(stream):
+                is_goal = target == GROUP or {name, target} <= {*known} and self.mac(target) == self.mac(name)
+                if not is_goal or all(self.node(sender) == self.node(name) for sender in self.senders(stream)):
+                    yield f"frames of this stream aren't due at {name}:"
             for name in self.senders(stream):
                 if target in known and name in known and self.mac(target) in map(self.mac, self.redboxes.get(self.behind(name), [name])):
                     yield f"{name} sends to itself"
@@ -244,8 +279,13 @@ class Meaning:
         return ("smp_rate" in stream) != ("every_us" in stream)
 
     def reasons_of_moves(self):
-        """Why it isn't told how copies move: `hop_us` stands beside "hops", and there alone."""
+        """Why it isn't told how copies move: `hop_us` stands beside "hops", and there alone, as the keys of wires beside "wire"."""
         moves, hop = self.plan.get("moves", ""), self.plan.get("hop_us")
+        if moves == "wire":
+            right = {"rate_mbps": range(1, 100001), "residence_us": range(1000001), "switching": ("store", "cut")}
+            yield from (f"bad value of {key}:" for key, values in right.items() if key in self.plan and self.plan[key] not in values)
+        elif any(key in self.plan for key in ("rate_mbps", "residence_us", "switching")):
+            yield "this changes nothing:"
         if moves == "hops" and not hop:
             yield "missing word hop_us:" if hop is None else "bad value of hop_us:"
         if moves != "hops" and hop is not None:
@@ -386,11 +426,11 @@ def wanted_deeds(meaning):
             yield now, step
 
 
-class Hops:
-    """A scenario that moves copies by hops, played step by step; a step that stands where it may not is what is wrong."""
+class Paced:
+    """A scenario that moves copies by hops or wires, played step by step; a step that stands where it may not is what is wrong."""
 
     def __init__(self, plan, scenario, table):
-        self.meaning, self.hop = Meaning(plan), hop_of(plan)
+        self.meaning, self.has_begun = Meaning(plan), False
         self.world, self.wanted, self.abouts = model.World(scenario, table), wanted_deeds(self.meaning), []
 
     def waiting(self):
@@ -400,7 +440,7 @@ class Hops:
         return not any(self.world.outbox.values()) and not any(self.world.hand.values())
 
     def is_due(self, moment):
-        return any(row.put_at + self.hop <= moment for row in self.waiting())
+        return any(self.due(row, link) <= moment for link in self.world.links for queue in link.queues for row in queue[:1])
 
     def deed(self, step):
         """What is wrong with a step that is no move, or None."""
@@ -414,8 +454,9 @@ class Hops:
     def move(self, step):
         """What is wrong with a move of a copy, or None."""
         if step["do"] == "take":
-            queue = self.world.links[step["link"]].queues[["forth", "back"].index(step["dir"])]
-            return None if self.is_tidy() and queue and queue[0].put_at + self.hop == self.world.at else "not a hop"
+            link = self.world.links[step["link"]]
+            queue = link.queues[["forth", "back"].index(step["dir"])]
+            return None if self.is_tidy() and queue and self.due(queue[0], link) == self.world.at else "not in time"
         return None
 
     def clock(self, step):
@@ -435,7 +476,8 @@ class Hops:
             return f"refused: {refused}"
         for link, count in zip(self.world.links, rows):
             for row in link.rows[count:]:
-                row.put_at = self.world.at
+                self.note(row, link)
+        self.has_begun = step["do"] not in ("clock", "put", "take", "judge") or self.has_begun and step["do"] != "clock"
         if step["do"] == "life" and "about" not in step and step["node"] in self.meaning.redboxes:
             self.abouts = known_behind(self.meaning, self.world, step["node"])
         return why
@@ -445,22 +487,90 @@ class Hops:
         return None if self.is_tidy() and not self.waiting() and not self.abouts and left is None else f"the end: {left}"
 
 
-def check_hops(plan, scenario, table):
-    """What is wrong with a scenario that moves copies by hops, or None."""
-    hops = Hops(plan, scenario, table)
+class Hops(Paced):
+    """By hops, each copy is taken so long after it was put."""
+
+    def note(self, row, link):
+        row.put_at = self.world.at
+
+    def due(self, row, link):
+        return row.put_at + hop_of(self.meaning.plan)
+
+
+class Wires(Paced):
+    """By wires, each direction of a link carries one frame at a time."""
+
+    def __init__(self, plan, scenario, table):
+        super().__init__(plan, scenario, table)
+        self.rate, self.residence, self.cuts = plan.get("rate_mbps", 100), plan.get("residence_us", 5), plan.get("switching") == "cut"
+        self.last = {}  # of each end of a link the copy that went last from there
+
+    def time(self, octets):
+        return -(-octets * 8 // self.rate)
+
+    def free(self, end):
+        """From when on the direction from an end is free."""
+        row = self.last.get(end)
+        return 0 if row is None or row.fate == "cut" else row.ends
+
+    def note(self, row, link):
+        """A copy that was put: unless it was lost then, it begins when its direction is free."""
+        if row.fate is None:
+            end = link.ends[row.dir]
+            least = 60 if model.read(row.octets).seq is None else 66
+            row.begins = max(self.world.at, self.free(end))
+            row.ends = row.begins + self.time(max(least, len(row.octets)) + 24)
+            self.last[end] = row
+
+    def due(self, row, link):
+        early = row.begins + self.time(22) + self.residence
+        is_to_come = early > self.world.at or early == self.world.at and not self.has_begun
+        here = link.ends[1 - row.dir]
+        others = [end for end in self.world.ends if end[0] == here[0] and end != here]
+        if self.cuts and is_to_come and others and all(self.free(end) <= early for end in others):
+            return early
+        return row.ends + self.residence
+
+
+def check_paced(plan, scenario, table):
+    """What is wrong with a scenario that moves copies by hops or wires, or None."""
+    paced = (Hops if hop_of(plan) else Wires)(plan, scenario, table)
     for place, step in enumerate(scenario["step"]):
-        if why := hops.wrong(step):
+        if why := paced.wrong(step):
             return f"step {place}: {step}: {why}"
-    return hops.end()
+    return paced.end()
+
+
+def sends_told(meaning):
+    """The moments of the sends that a plan by hops tells: of a RedBox about each station, known or not."""
+    for at, step in wanted_deeds(meaning):
+        if step["do"] in ("send", "life"):
+            yield from [at] * (1 + len(meaning.redboxes.get(step["node"], [])) * (step["do"] == "life"))
+
+
+def room(plan, scenario):
+    """The capacity that a plan has: where it says none, the most sends that may be under way at once, 64 to 4096."""
+    if "capacity" in plan:
+        return plan["capacity"]
+    most = sends = 0
+    if hop := hop_of(plan):
+        moments, way = list(sends_told(Meaning(plan))), 2 * len(scenario["link"]) * hop
+        most = max((place + 1 - bisect_left(moments, at - way) for place, at in enumerate(moments)), default=0)
+    for step in scenario["step"]:
+        sends = 0 if step["do"] == "drain" else sends + (step["do"] in ("send", "life"))
+        most = max(most, 0 if hop else sends)
+    return max(64, min(most, 4096))
 
 
 def check(plan, scenario, table):
     """What is wrong with a scenario, or None."""
     meaning = Meaning(plan)
+    if scenario["capacity"] != room(plan, scenario):
+        return f"capacity: not {room(plan, scenario)}"
     if [tuple(link["ends"]) for link in scenario["link"]] != list(meaning.ends()):
         return "links"
-    if hop_of(plan):
-        return check_hops(plan, scenario, table)
+    if is_paced(plan):
+        return check_paced(plan, scenario, table)
     world, wanted = model.World(scenario, TABLES["large"]), meaning.steps()
     abouts, last, each_send = [], None, plan.get("moves", "each send drains") == "each send drains"
     for place, step in enumerate(scenario["step"]):
@@ -491,31 +601,99 @@ def check(plan, scenario, table):
     return None
 
 
-def counted(said):
+def by_names(line, names):
+    """A line of a report of which the nodes are told by their names, and entries by a node's name and their number."""
+    words = line.split(" ")
+    if words[0] == "doubt" and len(words) > 3 or words[:2] == ["budget", "late"]:
+        words[2:] = [f"{names[int(words[2])]}:{words[3]}", *(names[int(word)] for word in words[4:])]
+    return " ".join(words)
+
+
+def outcomes(plan, scenario, world, names):
+    """Each send, and of those that need it who missed it, had it twice, or had it where it wasn't due. It is needed by those whom its stream
+    is for, as far as they are on then; by all, where its stream names none."""
+    meaning, told = Meaning(plan), [iter(titles) for titles in model.streams(scenario)]
+    whom = {title: {meaning.node(name) for name in meaning.receivers(stream)} for title, stream, *_ in meaning.streams()}
+    for (number, place), _, (_, *got, _) in world.all_deliveries():
+        at, receivers = world.nodes[number].record[place][1], whom.get(next(told[number]))
+        needs = [not (receivers and name not in receivers or meaning.is_off(name, at)) for name in names]
+        yield (number, place), [[node for node in nodes if needs[node]] for nodes in got]
+
+
+class Count:
     """What a line of a sweep says of a plan's run, by model.py."""
-    ended = subprocess.run([PLANNER], input=said, capture_output=True, text=True, timeout=60)
-    _, _, fault, world = model.run(tomllib.loads(ended.stdout), 512, 1 << 30)
-    *lines, last = world.deliveries()
-    sends, complete = last.split()[1::2]
-    missed, twice = (sum(f" {word} -" not in line for line in lines) for word in ("missed", "twice"))
-    return f"sends {sends} complete {complete} missed {missed} twice {twice} needed {world.needed().split()[1]} {world.network_verdict()}{fault}"
+
+    def __init__(self, said):
+        ended = subprocess.run([PLANNER], input=said, capture_output=True, text=True, timeout=60)
+        scenario = tomllib.loads(ended.stdout)
+        _, _, fault, world = model.run(scenario, 512, 1 << 30)
+        names = [node["name"] for node in scenario["node"]]
+        sends, all_outcomes = zip(*outcomes(tomllib.loads(said), scenario, world, names)) if world.sends() else ((), ())
+        self.sends, self.complete = len(sends), sum(not any(outcome) for outcome in all_outcomes)
+        self.missed, self.twice = (sum(bool(outcome[place]) for outcome in all_outcomes) for place in (0, 1))
+        self.needed, self.budget = int(world.needed().split()[1]), by_names(world.budget(), names)
+        latency, load = world.latency()[-1].split(), world.load()[-1].split()
+        self.latency, self.load = 0 if latency[1] == "none" else int(latency[2]), 0 if load[1] == "none" else int(load[2])
+        self.doubt = by_names(world.network_verdict(), names) + fault
+        if self.doubt.startswith("doubt cut-off "):
+            first = next(((send, outcome[0][0]) for send, outcome in zip(sends, all_outcomes) if outcome[0]), None)
+            self.doubt = f"doubt cut-off {names[first[0][0]]}:{first[0][1]} {names[first[1]]}" if first else "none missed"
+
+    def line(self, limits):
+        """The line behind what was off, with these limits on latency and load."""
+        numbers = f"sends {self.sends} complete {self.complete} missed {self.missed} twice {self.twice} needed {self.needed} {self.budget}"
+        over = ["" if limit is None or number <= limit else f" over {limit}" for number, limit in zip((self.latency, self.load), limits)]
+        return f"{numbers} latency {self.latency}{over[0]} load {self.load}{over[1]} {self.doubt}"
+
+    def is_over(self, limits):
+        return any(limit is not None and number > limit for number, limit in zip((self.latency, self.load), limits))
 
 
-def swept(said, at):
+def cases_of(plan, at, pairs):
+    """All that is off in turn: how many links and nodes, what a line calls it, what the list of single points does, and the events."""
+    meaning = Meaning(plan)
+    ends, nodes = list(meaning.ends()), meaning.names + [f"{box}-sans" for box in meaning.boxes]
+    ones = [(f"link {k} {a} {b}", f"{a}-{b}", f'cut = ["{a}", "{b}"]') for k, (a, b) in enumerate(ends)]
+    ones += [(f"node {k} {name}", name, f'off = "{name}"') for k, name in enumerate(nodes)]
+    events = [f"[[event]]\nat_us = {at}\n{deed}\n" for _, _, deed in ones]
+    yield from ((1, line, point, event) for (line, point, _), event in zip(ones, events))
+    if pairs:
+        for first in range(len(ones)):
+            yield from ((2, f"{ones[first][0]}, {ones[second][0]}", None, events[first] + events[second]) for second in range(first + 1, len(ones)))
+    yield 0, "undisturbed", None, ""
+
+
+def lines_of_sweep(said, at, pairs, part, limits):
+    """The lines of a sweep, and its status."""
+    cases = [*cases_of(tomllib.loads(said), at, pairs)]
+    cases = cases[part[0] - 1 :: part[1]] if part else cases
+    counts = [Count(said + event) for _, _, _, event in cases]
+    whole = [count.complete == count.sends for count in counts]
+    lines = [f"{line} {count.line(limits)}" for (_, line, _, _), count in zip(cases, counts)]
+    status = 2 if any(count.is_over(limits) or off < 2 and not is_whole for (off, _, _, _), count, is_whole in zip(cases, counts, whole)) else 0
+    if part:
+        return lines, status
+    points = [point for (off, _, point, _), is_whole in zip(cases, whole) if off == 1 and not is_whole]
+    lines += [f"single points of failure: {', '.join(points)}" if points else "no single point of failure"]
+    beyond = [count.budget for count in counts if not count.budget.split()[1].isdigit()]
+    budget = beyond[0] if beyond else f"budget {max(int(count.budget.split()[1]) for count in counts)}"
+    return [*lines, f"needed {max(count.needed for count in counts)}", budget], status
+
+
+def swept(said, at, chance):
     """What is wrong with the lines of a sweep, or None."""
-    ended = subprocess.run([PLANNER, "sweep", "--at-us", str(at)], input=said, capture_output=True, text=True, timeout=60)
     plan = tomllib.loads(said)
+    pairs, part = chance.random() < 0.2 and len([*Meaning(plan).ends()]) < 5, chance.choice([None, None, (1, 2), (2, 2), (2, 3), (9, 9)])
+    limits = [chance.choice([None, None, 0, 200]), chance.choice([None, None, 0, 1500])]
+    words = ["--pairs"] * pairs + (["--part", f"{part[0]}/{part[1]}"] if part else [])
+    words += [word for name, limit in zip(("latency", "load"), limits) if limit is not None for word in (f"--limit-{name}", str(limit))]
+    ended = subprocess.run([PLANNER, "sweep", "--at-us", str(at), *words], input=said, capture_output=True, text=True, timeout=300)
     if at > plan.get("until_us", at):
         is_told = ended.returncode == 1 and not ended.stdout and ended.stderr.startswith("fault: plan ") and "until_us" in ended.stderr
         return None if is_told else f"status {ended.returncode}, {ended.stderr}, not that {at} is behind until_us"
-    meaning = Meaning(plan)
-    links, nodes = list(meaning.ends()), meaning.names + [f"{box}-sans" for box in meaning.boxes]
-    event = f"{said}[[event]]\nat_us = {at}\n"
-    wanted = [f"link {k} {a} {b} " + counted(f'{event}cut = ["{a}", "{b}"]\n') for k, (a, b) in enumerate(links)]
-    wanted += [f"node {k} {name} " + counted(f'{event}off = "{name}"\n') for k, name in enumerate(nodes)]
-    wanted += ["undisturbed " + counted(said)]
-    wanted += [f"needed {max(int(line.split(' needed ')[1].split()[0]) for line in wanted)}"]
-    return next((f"{got} and not {want}" for got, want in zip(ended.stdout.splitlines() + [""], wanted + [""]) if got != want), ended.stderr or None)
+    wanted, status = lines_of_sweep(said, at, pairs, part, limits)
+    wrong = next((f"{got} and not {want}" for got, want in zip(ended.stdout.splitlines() + [""], wanted + [""]) if got != want), ended.stderr or None)
+    return wrong or (None if ended.returncode == status else f"status {ended.returncode} and not {status}")
 
 
 def played(scenario, table):
@@ -529,7 +707,7 @@ def played(scenario, table):
 def faulty(plan, table, ended):
     """The reason that a fault's line tells, and what is wrong with it, or None."""
     reasons = [*Meaning(plan).reasons()]
-    if TABLES[table] < 512 and hop_of(plan):
+    if TABLES[table] < 512 and is_paced(plan):
         reasons.append("copies are still on their way after ")
     line = ended.stderr
     reason = next((reason for reason in reasons if reason in line), None)
@@ -547,6 +725,8 @@ def comments(plan, scenario):
     most = max((bisect_left(moments, start + 800_000) - bisect_left(moments, start) for start in moments), default=0)
     counts = f"{len(scenario['node'])} nodes, {len(scenario['link'])} links, {len(moments)} sends, at most {most} in 800 ms"
     moves = f"hop_us = {hop_of(plan)}" if hop_of(plan) else plan.get("moves", "each send drains")
+    if moves == "wire":
+        moves = f"wire {plan.get('rate_mbps', 100)} Mbit/s, {plan.get('residence_us', 5)} us, {plan.get('switching', 'store')}"
     return f"# {plan['title']}\n# {counts}; copies: {moves}\n"
 
 
@@ -578,8 +758,9 @@ def one(seed, counts):
         wrong = told(plan, table, ended.stdout)
         counts["told"] += 1
         counts["by hops"] += hop_of(plan) is not None
+        counts["by wires"] += plan.get("moves") == "wire"
         if not wrong and seed % EACH == 0:
-            wrong = swept(said, seed % 3 * 2000)
+            wrong = swept(said, seed % 3 * 2000, random.Random(seed))
             counts["swept"] += 1
     return wrong and f"{said}\nseed {seed}: {wrong}"
 

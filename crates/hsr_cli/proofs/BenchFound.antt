@@ -1,7 +1,9 @@
 -- What a parse found, by the walk of its command.
 use Rattle.std.proofs.Common.{◌≡◌, ◌≢◌, ◌<◌, inl, inr, List, [], ◌∷◌, length, Option, Some, None, IfNone, IfSome, refl, sym, ap, subst, ◌∙◌, codes, arith, Bool, true, false}
 use Rattle.clap.specs.Words.{App, Row, Text, fault_of, first_of, is_simple, is_simple_and_free, subcommand_of}
-use Rattle.hsr_cli.specs.Options.{Chosen, ChosenIn, IsAsked, IsBench, IsForm, IsNode, IsRefused, IsShowing, IsTable, IsTableChoice, IsTaken, Says, SaysNothing, flag_text, silent_usage_in}
+use Rattle.hsr_cli.specs.Options.{Chosen, ChosenIn, IsBench, IsNode, IsRefused, IsTableChoice, IsTaken, Says, SaysNothing, silent_usage_in}
+use Rattle.hsr_cli.specs.Playing.{IsTable}
+use Rattle.hsr_cli.proofs.PlayingFound.{asked_same, showing_same, table_same}
 use Rattle.hsr_cli.specs.Within.{IsWithin}
 use Rattle.hsr_frame.specs.Words.{mode_of, mode_word}
 use Rattle.hsr_frame.specs.declared.node.Mode.{Mode}
@@ -25,20 +27,6 @@ use Rattle.hsr_options.specs.declared.chosen.Options.{Options}
 use Rattle.hsr_options.specs.declared.chosen.Options.TheVariants.{Node, Run, Threads, Audit, Certify}
 
 -- equal look-ups choose the same
-asked_same : (f g : Text → Option Text) (asked : Asked) → ((id : Text) → f id ≡ g id) → IsAsked f asked → IsAsked g asked
-asked_same f g asked e h =
-    (sym (e (codes "load")) ∙ h.0, sym (e (codes "latency")) ∙ h.1, sym (e (codes "deliveries")) ∙ h.2, sym (e (codes "needed")) ∙ h.3, sym (e (codes "budget")) ∙ h.4)
-
-form_same : (f g : Text → Option Text) (form : Form) → ((id : Text) → f id ≡ g id) → IsForm f form → IsForm g form
-form_same f g Transcript e h = sym (e (codes "transcript")) ∙ h
-form_same f g (Report asked) e h = (sym (e (codes "transcript")) ∙ h.0, asked_same f g asked e h.1)
-
-showing_same : (f g : Text → Option Text) (showing : Showing) → ((id : Text) → f id ≡ g id) → IsShowing f showing → IsShowing g showing
-showing_same f g showing e h = (sym (e (codes "network")) ∙ h.0, form_same f g showing.form e h.1, sym (e (codes "names")) ∙ h.2)
-
-table_same : (f g : Text → Option Text) (table : TableSize) → ((id : Text) → f id ≡ g id) → IsTable f table → IsTable g table
-table_same f g table e h = (h.0, sym (e (codes "table")) ∙ h.1, h.2)
-
 choice_same : (f g : Text → Option Text) (choice : TableChoice) → ((id : Text) → f id ≡ g id) → IsTableChoice f choice → IsTableChoice g choice
 choice_same f g (Given table) e h = table_same f g table e h
 choice_same f g Told e h = sym (e (codes "table")) ∙ h
@@ -61,11 +49,6 @@ chosen_same name f g (Audit table scope asked scenario folder explains) e h = (
 )
 chosen_same name f g (Certify table within is_coarse) e h =
     (h.0, table_same f g table e h.1, subst (λ word. IsWithin word within) (e (codes "within")) h.2, sym (e (codes "coarse")) ∙ h.3)
-
--- without a flag for the transcript nothing is to be written
-pub no_form : (found : Text → Option Text) → ((b : Bool) → found (codes "transcript") ≢ Some (flag_text b)) → (form : Form) → ¬ IsForm found form
-no_form found none Transcript h = none true h
-no_form found none (Report asked) h = none false h.0
 
 pub chosen_from : (found : Option (Text × List Row)) (name : Text) (rows : List Row) (o : Options) → found ≡ Some (name, rows)
     → Chosen name (λ id. first_of id rows) o → ChosenIn found o
@@ -130,23 +113,6 @@ mode_found = word_found mode_word
 
 pub mode_unread : (r : Option Mode) (w : Text) (found : Option Text) → r ≡ mode_of w → found ≡ Some w → IfNone r ((m : Mode) → found ≢ Some (mode_word m))
 mode_unread = word_unread mode_word mode_of mode_again
-
-pub table_found : (r : Option TableSize) (w : Text) (found : Text → Option Text) → r ≡ table_of w → found (codes "table") ≡ Some w → IfSome r (IsTable found)
-table_found None w found e is = tt
-table_found (Some t) w found e is = (w, is, sym e)
-
-pub table_unread : (r : Option TableSize) (w : Text) (found : Text → Option Text) → r ≡ table_of w → found (codes "table") ≡ Some w → IfNone r ((t : TableSize) → ¬ IsTable found t)
-table_unread (Some t) w found e is = tt
-table_unread None w found e is = λ t h.
-    let there : found (codes "table") ≡ Some h.0 = h.1 in
-    let same : w ≡ h.0 = cc in
-    let none = e ∙ ap table_of same ∙ h.2 in
-    cc
-
-pub table_missing : (found : Text → Option Text) → None ≡ found (codes "table") → (t : TableSize) → ¬ IsTable found t
-table_missing found e t h =
-    let none = e ∙ h.1 in
-    cc
 
 pub none_so : {X : Type 0} (o : Option X) (P : Type 0) → P → IfNone o P
 none_so None P h = h

@@ -1,3 +1,4 @@
+pub mod PlayingFound
 pub mod BenchFound
 pub mod PlanFound
 pub mod Refusing

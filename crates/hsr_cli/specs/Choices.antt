@@ -1,51 +1,29 @@
 -- What the arguments of hsr_plan choose: by the values that clap's walk of this command finds.
-use Rattle.std.specs.Prelude.{◌≡◌, ◌≢◌, ◌⊎◌, ◌≤◌, ◌^◌, ℕ, true, List, [], ◌∷◌, map, Option, Some, None, codes}
-use Rattle.std.specs.Borrow.{Bor}
+use Rattle.std.specs.Prelude.{◌≡◌, ◌≢◌, ◌⊎◌, true, [], List, Option, Some, None, codes}
 use Rattle.clap.specs.Words.{App, Row, Rule, Text, new_app, new_rule, with_rule, with_subcommand, matches_of, subcommand_of, first_of, fault_of}
-use Rattle.clap.specs.declared.builder.ArgAction.TheVariants.{SetTrue}
 use Rattle.clap.specs.declared.builder.value_parser.ValueParser.TheVariants.{Names}
-use Rattle.hsr_text.specs.Words.{decimal_of}
-use Rattle.hsr_table_size.specs.Sizes.{table_of, table_words}
+use Rattle.hsr_table_size.specs.Sizes.{table_of}
 use Rattle.hsr_table_size.specs.declared.size.TableSize.{TableSize}
 use Rattle.hsr_table_size.specs.declared.size.TableSize.TheVariants.{Large}
 use Rattle.hsr_cli.specs.declared.plan_words.TheConstants.{TOGETHER}
 use Rattle.hsr_cli.specs.declared.task.Task.{Task}
-use Rattle.hsr_cli.specs.declared.task.Task.TheVariants.{Plan, Check, Sweep, Certify}
+use Rattle.hsr_cli.specs.declared.task.Task.TheVariants.{Plan, Check, Run, Sweep, Certify}
 use Rattle.hsr_cli.specs.declared.task.Faults.{Faults}
 use Rattle.hsr_cli.specs.declared.task.Faults.TheVariants.{None as NoFaults, One, Two}
+use Rattle.hsr_cli.specs.Flags.{IsGiven, IsSet, Listed, flag_rule, word_rule}
+use Rattle.hsr_cli.specs.Playing.{IsShowing, IsTable as IsPlayed, ListsTables, playing_app}
+use Rattle.hsr_cli.specs.Sweeping.{IsSweep, sweep_app}
 use Rattle.hsr_cli.specs.Within.{IsWithin}
 
 -- ---- the command line
-
--- a list of names, wherever it lies
-abbrev pub Listed : Type 0
-Listed = Bor (List (Bor (List ℕ)))
-
-abbrev pub ListsTables : Listed → Type 0
-ListsTables tables = map (λ s. s.now) tables.now ≡ table_words
 
 -- `--table`, one of some names
 abbrev pub table_rule : Listed → Rule
 table_rule tables = record (new_rule (codes "table")) { long = Some (codes "table"); parser = Some (Names tables) }
 
--- a flag: a word that takes no value
-abbrev pub flag_rule : Text → Rule
-flag_rule name = record (new_rule name) { long = Some name; action = Some SetTrue }
-
--- `--at-us` of `sweep`, with its default
-abbrev pub at_rule : Rule
-at_rule = record (new_rule (codes "at-us")) { long = Some (codes "at-us"); defaults = codes "0" ∷ [] }
-
--- `--within` of `certify`
-abbrev pub within_rule : Rule
-within_rule = record (new_rule (codes "within")) { long = Some (codes "within"); value_names = 1 }
-
-abbrev pub sweep_app : App
-sweep_app = with_rule (new_app (codes "sweep")) at_rule
-
 abbrev pub certify_app : Listed → App
 certify_app tables =
-    with_rule (with_rule (with_rule (with_rule (new_app (codes "certify")) (table_rule tables)) within_rule) (flag_rule (codes "sweep"))) (flag_rule (codes "pairs"))
+    with_rule (with_rule (with_rule (with_rule (new_app (codes "certify")) (table_rule tables)) (word_rule (codes "within"))) (flag_rule (codes "sweep"))) (flag_rule (codes "pairs"))
 
 abbrev pub top_app : App
 top_app = record { top = record (new_app (codes "hsr_plan")).top { no_binary_name = true; has_version = true }; subs = [] }
@@ -54,7 +32,7 @@ abbrev pub alone_app : Listed → App
 alone_app tables = with_rule (with_rule top_app (table_rule tables)) (flag_rule (codes "check"))
 
 abbrev pub plan_app : Listed → App
-plan_app tables = with_subcommand (with_subcommand (alone_app tables) sweep_app.top) (certify_app tables).top
+plan_app tables = with_subcommand (with_subcommand (with_subcommand (alone_app tables) (playing_app (codes "run") tables).top) sweep_app.top) (certify_app tables).top
 
 -- ---- what is chosen
 
@@ -62,11 +40,6 @@ plan_app tables = with_subcommand (with_subcommand (alone_app tables) sweep_app.
 abbrev pub IsTable : Option Text → TableSize → Type 0
 IsTable None table = table ≡ Large
 IsTable (Some word) table = table_of word ≡ Some table
-
--- a moment that a plan may name, in decimal
-abbrev pub IsMoment : Option Text → ℕ → Type 0
-IsMoment None at = ⊥
-IsMoment (Some word) at = (decimal_of word ≡ Some at) × (at ≤ 2 ^ 40)
 
 -- each fault of `--sweep` is one link or node, and of `--pairs` one or two; they exclude one another
 abbrev pub IsFaults : Option Text → Option Text → Faults → Type 0
@@ -78,17 +51,39 @@ IsFaults sweep pairs Two = (sweep ≡ Some (codes "false")) × (pairs ≡ Some (
 abbrev pub ChosenAlone : Option Text → Option Text → Task → Type 0
 ChosenAlone check table (Plan size) = (check ≡ Some (codes "false")) × IsTable table size
 ChosenAlone check table Check = (check ≡ Some (codes "true")) × (table ≡ None)
-ChosenAlone check table (Sweep at) = ⊥
+ChosenAlone check table (Run size showing folder explains) = ⊥
+ChosenAlone check table (Sweep asked) = ⊥
 ChosenAlone check table (Certify size within faults) = ⊥
 
--- and before a subcommand of that name, with its values: a sweep or a verdict, where neither a check is asked for nor a size is named
+-- the values of `run` choose this task
+abbrev pub IsRun : (Text → Option Text) → Task → Type 0
+IsRun found (Plan size) = ⊥
+IsRun found Check = ⊥
+IsRun found (Run size showing folder explains) =
+    IsPlayed found size × IsShowing found showing × IsGiven found (codes "csv") folder × IsSet found (codes "explain") explains
+IsRun found (Sweep asked) = ⊥
+IsRun found (Certify size within faults) = ⊥
+
+-- the values of `certify` choose this task
+abbrev pub IsCertify : (Text → Option Text) → Task → Type 0
+IsCertify found (Plan size) = ⊥
+IsCertify found Check = ⊥
+IsCertify found (Run size showing folder explains) = ⊥
+IsCertify found (Sweep asked) = ⊥
+IsCertify found (Certify size within faults) =
+    IsTable (found (codes "table")) size × IsWithin (found (codes "within")) within × IsFaults (found (codes "sweep")) (found (codes "pairs")) faults
+
+-- neither a check is asked for nor a size is named
+abbrev pub IsBare : Option Text → Option Text → Type 0
+IsBare check table = (check ≡ Some (codes "false")) × (table ≡ None)
+
+-- and before a subcommand of that name, with its values: a run, a sweep or a verdict, where nothing is said before it
 abbrev pub ChosenBefore : Option Text → Option Text → Text → (Text → Option Text) → Task → Type 0
 ChosenBefore check table name found (Plan size) = ⊥
 ChosenBefore check table name found Check = ⊥
-ChosenBefore check table name found (Sweep at) = (check ≡ Some (codes "false")) × (table ≡ None) × (name ≡ codes "sweep") × IsMoment (found (codes "at-us")) at
-ChosenBefore check table name found (Certify size within faults) =
-    (check ≡ Some (codes "false")) × (table ≡ None) × (name ≡ codes "certify") × IsTable (found (codes "table")) size
-    × IsWithin (found (codes "within")) within × IsFaults (found (codes "sweep")) (found (codes "pairs")) faults
+ChosenBefore check table name found (Run size showing folder explains) = IsBare check table × (name ≡ codes "run") × IsRun found (Run size showing folder explains)
+ChosenBefore check table name found (Sweep asked) = IsBare check table × (name ≡ codes "sweep") × IsSweep found asked
+ChosenBefore check table name found (Certify size within faults) = IsBare check table × (name ≡ codes "certify") × IsCertify found (Certify size within faults)
 
 -- what is chosen by the values that stand before a subcommand, and by its name and its values, if there is one
 abbrev pub Chosen : (Text → Option Text) → Option (Text × (Text → Option Text)) → Task → Type 0

@@ -1,4 +1,7 @@
+pub mod Flags
 pub mod Within
+pub mod Playing
 pub mod Options
+pub mod Sweeping
 pub mod Choices
 pub mod Refusal

@@ -26,23 +26,18 @@ use Rattle.hsr_options.specs.declared.chosen.TableChoice.{TableChoice}
 use Rattle.hsr_options.specs.declared.chosen.TableChoice.TheVariants.{Given, Told}
 use Rattle.hsr_options.specs.declared.chosen.Options.{Options}
 use Rattle.hsr_options.specs.declared.chosen.Options.TheVariants.{Node, Run, Threads, Audit, Certify}
+use Rattle.hsr_cli.specs.Flags.{IsGiven, IsSet, Listed, flag_rule, word_rule}
+use Rattle.hsr_cli.specs.Playing.{IsAsked, IsScope, IsShowing, IsTable, ListsTables, playing_app, table_rule, with_folder, with_told}
 use Rattle.hsr_cli.specs.Within.{IsWithin}
 
 -- ---- the command line
 
--- a list of names, wherever it lies
-abbrev pub Listed : Type 0
-Listed = Bor (List (Bor (List ℕ)))
-
--- the words of the kinds of node, of the modes, of the sizes of tables, of what an audit chooses of these, and of the units
+-- the words of the kinds of node, of the modes, of what an audit chooses of the sizes of tables, and of the units
 abbrev pub ListsRoles : Listed → Type 0
 ListsRoles roles = map (λ s. s.now) roles.now ≡ node_role_word Danh ∷ node_role_word RedBox ∷ node_role_word QuadBox ∷ []
 
 abbrev pub ListsModes : Listed → Type 0
 ListsModes modes = map (λ s. s.now) modes.now ≡ mode_word H ∷ mode_word N ∷ mode_word U ∷ []
-
-abbrev pub ListsTables : Listed → Type 0
-ListsTables tables = map (λ s. s.now) tables.now ≡ table_words
 
 abbrev pub ListsChoices : Listed → Type 0
 ListsChoices choices = map (λ s. s.now) choices.now ≡ codes "auto" ∷ table_words
@@ -62,44 +57,13 @@ mac_rule = record (new_rule (codes "mac")) { long = Some (codes "mac"); defaults
 abbrev pub mode_rule : Listed → Rule
 mode_rule modes = record (new_rule (codes "mode")) { long = Some (codes "mode"); defaults = mode_word H ∷ []; parser = Some (Names modes) }
 
--- `--table`, one of some names, with its default
-abbrev pub table_rule : Listed → Rule
-table_rule tables = record (new_rule (codes "table")) { long = Some (codes "table"); defaults = table_word Large ∷ []; parser = Some (Names tables) }
-
 -- `--unit`, one of some names, with its default
 abbrev pub unit_rule : Listed → Rule
 unit_rule units = record (new_rule (codes "unit")) { long = Some (codes "unit"); defaults = unit_word Milliseconds ∷ []; parser = Some (Names units) }
 
--- a flag: a word that takes no value
-abbrev pub flag_rule : Text → Rule
-flag_rule name = record (new_rule name) { long = Some name; action = Some SetTrue }
-
--- an option that takes a word, for which its help has one name
-abbrev pub word_rule : Text → Rule
-word_rule name = record (new_rule name) { long = Some name; value_names = 1 }
-
--- with the flags for the parts of a report
-abbrev pub with_asked : App → App
-with_asked app =
-    with_rule (with_rule (with_rule (with_rule (with_rule app (flag_rule (codes "load"))) (flag_rule (codes "latency"))) (flag_rule (codes "deliveries")))
-    (flag_rule (codes "needed"))) (flag_rule (codes "budget"))
-
--- and those for the audit of its last line, and for more about how the run ended
-abbrev pub with_told : App → App
-with_told app = with_rule (with_rule (with_asked app) (flag_rule (codes "network"))) (flag_rule (codes "explain"))
-
 abbrev pub node_app : Listed → Listed → Listed → Listed → App
 node_app roles modes tables units =
     with_rule (with_rule (with_rule (with_rule (with_rule (new_app (codes "node")) (role_rule roles)) mac_rule) (mode_rule modes)) (table_rule tables)) (unit_rule units)
-
--- with that for the folder of a run's tables
-abbrev pub with_folder : App → App
-with_folder app = with_rule app (word_rule (codes "csv"))
-
--- a command that plays a scenario, of which it knows the names
-abbrev pub playing_app : Text → Listed → App
-playing_app name tables =
-    with_folder (with_rule (with_told (with_rule (with_rule (new_app name) (table_rule tables)) (flag_rule (codes "transcript")))) (flag_rule (codes "names")))
 
 -- that by which a run may be shown that can't be closed
 abbrev pub run_app : Listed → App
@@ -125,22 +89,6 @@ bench_app roles modes tables choices units =
 
 -- ---- what is chosen
 
-abbrev pub flag_text : Bool → Text
-flag_text true = codes "true"
-flag_text false = codes "false"
-
--- a flag is set, or not
-abbrev pub IsSet : (Text → Option Text) → Text → Bool → Type 0
-IsSet found name b = found name ≡ Some (flag_text b)
-
--- a word is given, or none is
-abbrev pub IsGiven : (Text → Option Text) → Text → Option (Bor Text) → Type 0
-IsGiven found name word = found name ≡ option_map (λ w. w.now) word
-
--- the size of tables is the one that a word chooses
-abbrev pub IsTable : (Text → Option Text) → TableSize → Type 0
-IsTable found table = (w : Text) × (found (codes "table") ≡ Some w) × (table_of w ≡ Some table)
-
 -- an audit takes the size that a word chooses, or the one of which its transcript tells
 abbrev pub IsTableChoice : (Text → Option Text) → TableChoice → Type 0
 IsTableChoice found (Given table) = IsTable found table
@@ -152,27 +100,6 @@ IsNode found node = (found (codes "role") ≡ Some (node_role_word node.role))
     × ((t : Text) × (found (codes "mac") ≡ Some t) × (address_of t ≡ Ok node.mac))
     × (found (codes "mode") ≡ Some (mode_word node.mode)) × IsTable found node.table
     × (found (codes "unit") ≡ Some (unit_word node.unit))
-
--- which parts of a report are asked for is told by flags
-abbrev pub IsAsked : (Text → Option Text) → Asked → Type 0
-IsAsked found asked = IsSet found (codes "load") asked.load × IsSet found (codes "latency") asked.latency × IsSet found (codes "deliveries") asked.deliveries
-    × IsSet found (codes "needed") asked.needed × IsSet found (codes "budget") asked.budget
-
--- and which audit the last line is of
-abbrev pub is_network : Scope → Bool
-is_network Ring = false
-is_network Network = true
-
-abbrev pub IsScope : (Text → Option Text) → Scope → Type 0
-IsScope found scope = IsSet found (codes "network") (is_network scope)
-
--- what is to be written, too; for a transcript the parts don't matter
-abbrev pub IsForm : (Text → Option Text) → Form → Type 0
-IsForm found Transcript = IsSet found (codes "transcript") true
-IsForm found (Report asked) = IsSet found (codes "transcript") false × IsAsked found asked
-
-abbrev pub IsShowing : (Text → Option Text) → Showing → Type 0
-IsShowing found showing = IsScope found showing.scope × IsForm found showing.form × IsSet found (codes "names") showing.names
 
 -- the options are the values of a subcommand, by its name and what it found
 abbrev pub Chosen : Text → (Text → Option Text) → Options → Type 0

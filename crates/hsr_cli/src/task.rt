@@ -1,4 +1,5 @@
 //! What arguments of hsr_plan choose.
+use hsr_options::Showing;
 use hsr_table_size::TableSize;
 
 /// Which links and nodes are taken to be off from the start, one after the other.
@@ -12,19 +13,48 @@ pub enum Faults {
     Two,
 }
 
+/// A part of a sweep: each `of`-th case from the one with this number on, counted from 1.
+#[derive(Clone, Copy, Debug, PartialEq, Eq)]
+pub struct Part {
+    pub number: u64,
+    pub of: u64,
+}
+
+/// What a sweep is asked for.
+#[derive(Clone, Copy, Debug, PartialEq, Eq)]
+pub struct SweepWords {
+    /// From which moment on links and nodes are off, in microseconds.
+    pub at: u64,
+    /// Whether each two of them are off at once too.
+    pub pairs: bool,
+    /// Which part of the cases is swept; all of them, where it isn't said.
+    pub part: Option<Part>,
+    /// The most that a direction of a link may carry in its worst millisecond, in kbit/s.
+    pub limit_load: Option<u64>,
+    /// The longest that a frame may take to a receiver, in microseconds.
+    pub limit_latency: Option<u64>,
+}
+
 /// What arguments of hsr_plan choose.
 #[derive(Clone, Copy, Debug, PartialEq, Eq)]
-pub enum Task {
+pub enum Task<'a> {
     /// A plan is written as a scenario, for a run with tables of this size.
     Plan {
         table: TableSize,
     },
     /// A scenario is checked.
     Check,
-    /// Each link and each node of a plan is off from a moment on, in microseconds, one by one.
-    Sweep {
-        at: u64,
+    /// A plan is run, and shown as `hsr_bench run` shows the run of its scenario.
+    Run {
+        table: TableSize,
+        showing: Showing,
+        /// The folder into which the run's tables are put.
+        folder: Option<&'a str>,
+        /// Whether what a fault or a doubt means is said on standard error.
+        explains: bool,
     },
+    /// Each link and each node of a plan is off from a moment on, one by one.
+    Sweep(SweepWords),
     /// Say of a plan whether it certifies delivery, whatever the order in which its copies move. Nothing is played.
     Certify {
         table: TableSize,

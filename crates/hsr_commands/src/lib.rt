@@ -35,5 +35,6 @@ pub use hsr_table_size::TableSize;
 pub use notes::Notes;
 pub use reading::scenario_of;
 pub use scenario::scenario_run;
+pub use shown::{ShownRun, asks_budget, deliver, finding_of, shown_by};
 pub use text::read_text;
 pub use threads::threads_run;

@@ -47,15 +47,14 @@ fn words_of(fault: TranscriptFault) -> &'static str {
 /// What was found of a run, and where its budget is asked for, why the run isn't within that.
 fn explained_run<const C: usize>(
     alloc: Global,
-    octets: &[u8],
+    names: &[Vec<u8>],
     closed: &Closed<C>,
     finding: Finding,
     budget: bool,
 ) -> Result<Explanation, NoMemory> {
-    let names = names_in(alloc, octets);
-    let mut explanation = explain_finding(alloc, closed, names.as_slice(), finding)?;
+    let mut explanation = explain_finding(alloc, closed, names, finding)?;
     if budget {
-        explanation.join(explain_budget(alloc, closed, names.as_slice())?)?;
+        explanation.join(explain_budget(alloc, closed, names)?)?;
     }
     Ok(explanation)
 }
@@ -130,7 +129,22 @@ impl Notes {
         budget: bool,
     ) {
         if self.explains {
-            self.note(explained_run(alloc, octets, closed, finding, budget));
+            let names = names_in(alloc, octets);
+            self.of_named_run(alloc, names.as_slice(), closed, finding, budget);
+        }
+    }
+
+    /// Notes what was found of a run, whose nodes have these names, and of its budget, where that is asked for.
+    pub fn of_named_run<const C: usize>(
+        &mut self,
+        alloc: Global,
+        names: &[Vec<u8>],
+        closed: &Closed<C>,
+        finding: Finding,
+        budget: bool,
+    ) {
+        if self.explains {
+            self.note(explained_run(alloc, names, closed, finding, budget));
         }
     }
 }

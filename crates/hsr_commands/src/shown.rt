@@ -131,7 +131,8 @@ pub fn tables_if<const C: usize>(
 }
 
 /// What is shown of a finished run of which the chosen audit found this, all by one naming.
-fn shown_by<const C: usize>(
+/// `Fault::Memory` if allocation fails, and no other fault.
+pub fn shown_by<const C: usize>(
     alloc: Global,
     closed: &Closed<C>,
     naming: &Naming,

@@ -1,5 +1,5 @@
 -- Who sent frames, by numbers.
-use Rattle.std.proofs.Common.{Bool, cond, ◌≡◌, ℕ, zero, suc, ◌+◌, ◌-◌, ◌*◌, ◌/◌, ◌%◌, ◌<◌, ◌≤◌, List, [], ◌∷◌, ◌++◌, get_or, length, map, take, ◌⊎◌, inl, inr, refl, sym, ap, subst, ◌∙◌, arith, true, false, Option, Some, None}
+use Rattle.std.proofs.Common.{Bool, cond, ◌≡◌, ℕ, zero, suc, ◌+◌, ◌<◌, ◌≤◌, List, [], ◌∷◌, ◌++◌, get_or, length, map, take, ◌⊎◌, inl, inr, refl, sym, ap, subst, ◌∙◌, arith, true, false, Option, Some, None}
 use Rattle.std.specs.Prelude.{nat_lt, option_map, slice_get, slice_index, Contains, IfNone, IfSome}
 use Rattle.std.proofs.lemmas.Bool.{cases_order, ltb-false, ltb-true}
 use Rattle.std.proofs.lemmas.List.{length-map, map-append, take_more}
@@ -8,7 +8,7 @@ use Rattle.std.proofs.lemmas.Option.{get_or_from_slice_get, none-some, same_Some
 use Rattle.std.proofs.lemmas.Slice.Eq.{bytes_eq-Decides}
 use Rattle.hsr_address.specs.Numbers.{address_of, number_of}
 use Rattle.hsr_address.proofs.Numbering.{address_back}
-use Rattle.hsr_frame.specs.Address.{IsAddress, is_same_address}
+use Rattle.hsr_frame.specs.Address.{is_same_address}
 use Rattle.hsr_frame_groups.specs.Frames.{CaughtFields}
 use Rattle.hsr_health.specs.ByKey.{AreCountsOf}
 use Rattle.hsr_health.specs.Counted.{AreSources}

@@ -1,9 +1,9 @@
 -- The runs of a point, one frame after the other.
-use Rattle.std.proofs.Common.{◌≡◌, ℕ, zero, suc, ◌+◌, ◌-◌, ◌<◌, ◌≤◌, ◌&&◌, ◌||◌, Bool, true, false, cond, List, [], ◌∷◌, ◌++◌, append_assoc, get_or, length, map, replicate, reverse, take, ◌⊎◌, inl, inr, refl, sym, ap, subst, ◌∙◌, arith, Option, Some, None}
+use Rattle.std.proofs.Common.{◌≡◌, ℕ, zero, suc, ◌+◌, ◌-◌, ◌<◌, ◌≤◌, ◌&&◌, ◌||◌, Bool, true, false, cond, List, [], ◌∷◌, ◌++◌, append_assoc, get_or, length, map, reverse, take, ◌⊎◌, inl, inr, refl, sym, ap, subst, ◌∙◌, arith, Option, Some, None}
 use Rattle.std.specs.List.{list_any, range_with_len}
 use Rattle.std.specs.Prelude.{nat_eq, filter, option_map, slice_get, slice_index, unwrap_or}
 use Rattle.std.proofs.lemmas.Bool.{and_parts, eq-eqb, eqb-false, ne_eqb}
-use Rattle.std.proofs.lemmas.List.{append-nil, length-append, length-replicate, length-reverse, map-append, reverse-append, reverse-reverse, take_all, take_more}
+use Rattle.std.proofs.lemmas.List.{append-nil, length-replicate, length-reverse, map-append, reverse-append, reverse-reverse, take_all, take_more}
 use Rattle.std.proofs.lemmas.List.Elements.{filter-append}
 use Rattle.std.proofs.lemmas.List.Folds.{list_any_more}
 use Rattle.std.proofs.lemmas.List.FromFn.{get_or-map-range_with_len}
@@ -17,7 +17,7 @@ use Rattle.hsr_sightings.specs.Ring.{Ring}
 use Rattle.hsr_sightings.specs.Seen.{came_both, fate_of}
 use Rattle.hsr_sightings.specs.Sightings.{Sighting as Seen, came_both_ways, came_by, is_once, sees_both_ways, sightings}
 use Rattle.hsr_sightings.specs.Fields.{Sighting}
-use Rattle.hsr_health.specs.Broken.{AreMarked, AreRuns, AreTested, IsClosed, IsEnded, IsRun, IsStep, IsStepIf, IsTestOf, IsTold, Kept, Run, Span, Spans, all_spans, end_span, grown, is_group_at, is_marked, is_of_span, is_over, kept_at, none_going, put_sighting, run_at, runs_at, runs_if, runs_of, spans_in}
+use Rattle.hsr_health.specs.Broken.{AreMarked, AreRuns, AreTested, IsClosed, IsEnded, IsRun, IsStep, IsStepIf, IsTold, Kept, Run, Span, Spans, all_spans, end_span, grown, is_group_at, is_marked, is_of_span, is_over, kept_at, none_going, put_sighting, run_at, runs_at, runs_if, runs_of, spans_in}
 use Rattle.hsr_health.specs.Counted.{AreSources, changed, goes_to_group, is_fate, is_of, kept_by}
 use Rattle.hsr_health.specs.declared.broken.Span as the_span
 use Rattle.hsr_health.proofs.Fating.{once_same}

@@ -1,5 +1,5 @@
 -- What is counted of a source, put together.
-use Rattle.std.proofs.Common.{◌≡◌, ℕ, ◌+◌, ◌<◌, ◌^◌, Bool, true, false, cond, List, [], ◌∷◌, ◌++◌, get_or, length, reverse, ◌⊎◌, inl, inr, refl, sym, ap, subst, ◌∙◌, arith, Option, Some, None}
+use Rattle.std.proofs.Common.{◌≡◌, ℕ, ◌<◌, ◌^◌, Bool, true, false, cond, List, [], ◌∷◌, ◌++◌, get_or, length, reverse, ◌⊎◌, inl, inr, refl, sym, ap, subst, ◌∙◌, arith, Option, Some}
 use Rattle.std.specs.Prelude.{filter_map, slice_get}
 use Rattle.std.proofs.lemmas.List.{length-reverse, take_all}
 use Rattle.std.proofs.lemmas.Option.{slice_get-get_or, slice_get_within}
@@ -9,7 +9,7 @@ use Rattle.hsr_sightings.specs.Frames.{begins}
 use Rattle.hsr_sightings.specs.Read.{AreSightings}
 use Rattle.hsr_sightings.specs.Ring.{Ring}
 use Rattle.hsr_sightings.specs.Fields.{Sighting}
-use Rattle.hsr_health.specs.Counted.{AreCounted, AreFated, AreFates, AreOfSources, AreSkewed, AreSources, HaveNoFates, HaveNoLives, IsFated, IsSkewed, OfSource, counted, counts_with, has_wrong_lane, has_wrong_size, is_of, mark_of, no_counts, no_fates, skews_of, told_by, with_skew}
+use Rattle.hsr_health.specs.Counted.{AreCounted, AreFated, AreFates, AreOfSources, AreSkewed, AreSources, HaveNoFates, HaveNoLives, IsFated, IsSkewed, counted, counts_with, has_wrong_lane, has_wrong_size, is_of, mark_of, no_counts, no_fates, skews_of, told_by, with_skew}
 use Rattle.hsr_spread.specs.Spreads.{AreSpreads, IsSpread}
 use Rattle.hsr_health.specs.declared.counts.Counts.{Counts}
 use Rattle.hsr_health.specs.declared.counts.Fates.{Fates}

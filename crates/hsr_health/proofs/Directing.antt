@@ -1,20 +1,19 @@
 -- What is told of each direction, one copy, one copy that was overtaken and one sighting after the other.
-use Rattle.std.proofs.Common.{◌≡◌, ℕ, zero, suc, ◌+◌, ◌-◌, ◌<◌, ◌≤◌, ◌^◌, ◌&&◌, max, not, Bool, true, false, cond, List, [], ◌∷◌, ◌++◌, get_or, length, reverse, take, ◌⊎◌, inl, inr, refl, sym, ap, subst, ◌∙◌, arith, Option, Some, None}
-use Rattle.std.specs.Prelude.{nat_eq, nat_le, count_by, is_some, option_map, option_to_list, slice_get, slice_index, unwrap_or}
-use Rattle.std.proofs.lemmas.Bool.{eq-eqb, eqb-true, ne_eqb}
+use Rattle.std.proofs.Common.{◌≡◌, ℕ, zero, suc, ◌+◌, ◌<◌, ◌≤◌, ◌^◌, ◌&&◌, max, not, Bool, true, false, cond, List, [], ◌∷◌, ◌++◌, get_or, length, reverse, take, ◌⊎◌, inl, inr, refl, sym, ap, subst, ◌∙◌, arith, Option, Some, None}
+use Rattle.std.specs.Prelude.{nat_eq, count_by, is_some, option_map, option_to_list, slice_get, slice_index, unwrap_or}
+use Rattle.std.proofs.lemmas.Bool.{eq-eqb, ne_eqb}
 use Rattle.std.proofs.lemmas.List.{length-reverse, take_all}
 use Rattle.std.proofs.lemmas.List.Sums.{sum_by-append, sum_by-cons}
-use Rattle.std.proofs.lemmas.Option.{get_or_from_slice_get, same_Some, slice_get-get_or, slice_get_within}
-use Rattle.hsr_frame.specs.Address.{is_group}
+use Rattle.std.proofs.lemmas.Option.{same_Some, slice_get-get_or, slice_get_within}
 use Rattle.hsr_frame_groups.specs.Frames.{CaughtFields, past_of}
 use Rattle.hsr_sightings.specs.Copies.{carried_before, count_copies, is_again, is_late, is_overtaken, is_passed, most_of, top_before}
 use Rattle.hsr_sightings.specs.Read.{AreOvertaken, AreSightings, overtaken_at, overtaken_from}
 use Rattle.hsr_sightings.specs.Ring.{Ring, is_in}
 use Rattle.hsr_sightings.specs.Seen.{fate_of}
-use Rattle.hsr_sightings.specs.Sightings.{Sighting as Seen, came_by, is_open, is_to_group, sightings}
+use Rattle.hsr_sightings.specs.Sightings.{Sighting as Seen, came_by, is_open, is_to_group}
 use Rattle.hsr_sightings.specs.declared.overtaken.Overtaken.{Overtaken}
 use Rattle.hsr_sightings.specs.Fields.{Sighting}
-use Rattle.hsr_health.specs.Counted.{AreBesides, AreDirected, AreDirections, AreJoined, ArePassed, HaveNoOvertaken, IsBeside, IsJoined, OfDirection, beside_at, beside_with, changed, directed, direction_with, goes_to_group, is_fate, is_judged, is_judged_at, is_kept_at, is_there_in, kept_by, mark_of, more_if, no_beside, no_direction, one_more, other_way, overtaken_in, overtaken_more, overtaken_put, with_beside}
+use Rattle.hsr_health.specs.Counted.{AreBesides, AreDirected, AreDirections, AreJoined, ArePassed, HaveNoOvertaken, IsBeside, IsJoined, beside_at, beside_with, changed, directed, direction_with, goes_to_group, is_fate, is_judged, is_judged_at, is_kept_at, is_there_in, kept_by, mark_of, more_if, no_beside, no_direction, one_more, other_way, overtaken_in, overtaken_more, overtaken_put, with_beside}
 use Rattle.hsr_health.specs.declared.counts.Marks.{Marks}
 use Rattle.hsr_health.specs.declared.directions.Beside.{Beside}
 use Rattle.hsr_health.specs.declared.directions.DirectionNumbers.{DirectionNumbers}

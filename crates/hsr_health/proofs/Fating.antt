@@ -1,7 +1,7 @@
 -- What became of the frames of each source, one sighting after the other.
-use Rattle.std.proofs.Common.{◌≡◌, ℕ, zero, suc, ◌+◌, ◌-◌, ◌<◌, ◌≤◌, ◌^◌, ◌&&◌, min, not, Bool, true, false, cond, List, [], ◌∷◌, ◌++◌, get_or, length, reverse, take, ◌⊎◌, inl, inr, refl, sym, ap, subst, ◌∙◌, arith, Option, Some, None}
-use Rattle.std.specs.Prelude.{nat_eq, count_by, slice_get, slice_index}
-use Rattle.std.proofs.lemmas.List.{length-take, take_all, take_more}
+use Rattle.std.proofs.Common.{◌≡◌, ℕ, ◌+◌, ◌<◌, ◌≤◌, ◌^◌, ◌&&◌, not, Bool, true, false, cond, List, [], ◌∷◌, ◌++◌, reverse, take, ◌⊎◌, inl, inr, refl, sym, ap, subst, ◌∙◌, arith, Some}
+use Rattle.std.specs.Prelude.{count_by, slice_get, slice_index}
+use Rattle.std.proofs.lemmas.List.{length-take, take_more}
 use Rattle.std.proofs.lemmas.List.Sums.{count_by-le-length, sum_by_push}
 use Rattle.std.proofs.lemmas.Option.{get_or_from_slice_get, same_Some, slice_get-get_or, slice_get_within}
 use Rattle.hsr_frame.specs.Address.{is_group}
@@ -9,11 +9,11 @@ use Rattle.hsr_frame_groups.specs.Frames.{CaughtFields}
 use Rattle.hsr_sightings.specs.Read.{AreSightings}
 use Rattle.hsr_sightings.specs.Ring.{Ring}
 use Rattle.hsr_sightings.specs.Seen.{came_both, fate_of, is_edge}
-use Rattle.hsr_sightings.specs.Sightings.{Sighting as Seen, came_both_ways, is_first_at_edge, is_more, is_once, is_open, is_to_group, is_twice, sightings}
+use Rattle.hsr_sightings.specs.Sightings.{Sighting as Seen, came_both_ways, is_first_at_edge, is_more, is_once, is_open, is_twice}
 use Rattle.hsr_sightings.specs.declared.sighting.Fate.{Fate}
 use Rattle.hsr_sightings.specs.declared.sighting.Fate.TheVariants as the_fate
 use Rattle.hsr_sightings.specs.Fields.{Sighting}
-use Rattle.hsr_health.specs.Counted.{AreFated, AreFates, AreKeptFates, AreSources, HaveNoFates, IsFated, changed, count_kept, count_of_source, fate_index, fates_with, is_fate, is_of, is_of_source, is_seen_of, no_fates, one_more, same_as, with_fate}
+use Rattle.hsr_health.specs.Counted.{AreFated, AreFates, AreKeptFates, AreSources, HaveNoFates, IsFated, changed, count_kept, fates_with, is_fate, is_of, is_of_source, is_seen_of, one_more, same_as, with_fate}
 use Rattle.hsr_health.specs.declared.counts.Counts.{Counts}
 use Rattle.hsr_health.specs.declared.counts.Fates.{Fates}
 use Rattle.hsr_health.proofs.Sighted.{IsSeenAs, came_same, count_all, edge_same}

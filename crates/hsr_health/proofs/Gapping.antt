@@ -1,10 +1,10 @@
 -- Gaps, groups and numbers, one after the other.
-use Rattle.std.proofs.Common.{◌≡◌, ℕ, ◌+◌, ◌<◌, ◌≤◌, ◌&&◌, ◌||◌, not, Bool, true, false, List, [], ◌∷◌, ◌++◌, get_or, length, reverse, ◌⊎◌, inl, inr, refl, sym, ap, subst, ◌∙◌, arith, Option, Some, None}
+use Rattle.std.proofs.Common.{◌≡◌, ℕ, ◌+◌, ◌<◌, ◌≤◌, ◌^◌, ◌&&◌, ◌||◌, not, Bool, true, false, List, [], ◌∷◌, ◌++◌, get_or, length, ◌⊎◌, inl, inr, refl, sym, ap, subst, ◌∙◌, arith, Option, Some, None}
 use Rattle.std.specs.Prelude.{nat_eq, nat_lt, option_to_list, slice_get, slice_index}
 use Rattle.std.proofs.lemmas.Bool.{cases_lt}
 use Rattle.std.proofs.lemmas.Bool.Decides.{nat_tests}
-use Rattle.std.proofs.lemmas.List.{append-nil, length_push, reverse-append}
-use Rattle.std.proofs.lemmas.Option.{get_or_from_slice_get, same_Some, slice_get-get_or}
+use Rattle.std.proofs.lemmas.List.{append-nil, length_push}
+use Rattle.std.proofs.lemmas.Option.{get_or_from_slice_get, same_Some, slice_get-get_or, slice_get_within}
 use Rattle.hsr_frame_groups.specs.Frames.{CaughtFields}
 use Rattle.hsr_sightings.specs.Copies.{is_clash}
 use Rattle.hsr_sightings.specs.Frames.{begins}
@@ -112,10 +112,14 @@ pub one_more_at_most : (old new : List Numbered) (own : Option Numbered) (i : �
 one_more_at_most old new None i is le = let same = ap length (is ∙ append-nil old) in omega (arith, same, le)
 one_more_at_most old new (Some n) i is le = let more = ap length is ∙ length_push old n in omega (arith, more, le)
 
--- numbers with one more, the latest first
-pub reverse_more : {X : Type 0} (xs : List X) (own : Option X) → reverse (xs ++ option_to_list own) ≡ option_to_list own ++ reverse xs
-reverse_more xs None = ap reverse (append-nil xs)
-reverse_more xs (Some x) = reverse-append xs (x ∷ [])
+-- a group is one of the sources
+pub groups_small : (names : List (List ℕ)) (groups : List ℕ) → AreGroups names groups → length groups ≡ length names → length names ≤ 1024
+    → (k group : ℕ) → slice_get groups k ≡ Some group → group < 2 ^ 32
+groups_small names groups are long few k group here =
+    let within = slice_get_within groups k group here in
+    let there = slice_get-get_or names k [] (omega (arith, within, long)) in
+    let below = slice_get_within names group (get_or names k []) ((are k group here).same ∙ there) in
+    omega (arith, below, few)
 
 pub number_is : (of_copy groups : List ℕ) (marks : List Marks) (i sender group : ℕ) (c : CaughtFields) (m d : Marks) (own : Option Numbered) → slice_get marks i ≡ Some m → i < length marks
     → sender ≡ slice_index of_copy i → group ≡ slice_index groups sender → own ≡ number_if i sender group (is_numbered (get_or marks i d)) c

@@ -1,15 +1,16 @@
 -- Sums of packets in moving windows.
 use Rattle.std.proofs.Common.{◌≡◌, ℕ, zero, suc, ◌+◌, ◌-◌, ◌*◌, ◌<◌, ◌≤◌, ◌^◌, max, min, Bool, true, false, cond, List, [], ◌∷◌, ◌++◌, drop, length, map, take, get_or, ◌⊎◌, inl, inr, refl, sym, ap, subst, ◌∙◌, arith, Option, Some, None}
-use Rattle.std.specs.List.{sum_by}
-use Rattle.std.specs.Prelude.{nat_eq, nat_lt, filter, slice_get, slice_index, unwrap_or}
+use Rattle.std.specs.Prelude.{nat_eq, nat_lt, filter, is_some, option_map, slice_get, slice_index, unwrap_or}
 use Rattle.std.proofs.Math.Seq.{get_or-append_seam, take-add}
 use Rattle.std.proofs.lemmas.Bool.{cases_lt, cond-false, cond-true, le-ltb, lt-ltb}
 use Rattle.std.proofs.lemmas.List.{drop_more, get_or_append_left, length_push, take_more}
 use Rattle.std.proofs.lemmas.List.Sums.{sum_by-append, sum_by-cons, sum_by-take-le, sum_by_more}
-use Rattle.std.proofs.lemmas.Option.{get_or_from_slice_get, same_Some, slice_get-get_or, slice_get_within}
-use Rattle.hsr_capture_reader.specs.Fields.{PacketFields}
-use Rattle.hsr_taps.specs.Came.{AreInOrder}
-use Rattle.hsr_taps.specs.Tallies.{is_at}
+use Rattle.std.proofs.lemmas.Option.{get_or_from_slice_get, same_Some, slice_get-get_or, slice_get-map, slice_get_within}
+use Rattle.hsr_capture_reader.specs.Fields.{InterfaceFields, PacketFields}
+use Rattle.hsr_taps.specs.Asked.{ChoiceFields}
+use Rattle.hsr_taps.specs.Came.{AreInOrder, AreTalliesIf, tally_if}
+use Rattle.hsr_taps.specs.Tallies.{AreLookedAt, is_at}
+use Rattle.hsr_taps.specs.declared.tally.Tally.{Tally}
 use Rattle.hsr_health.specs.Loads.{AreLoads, AreSums, IsEndFrom, Rise, load_if, load_of, own_packets, peak_of, sum_from, weighed}
 use Rattle.hsr_health.specs.declared.load.Load.{Load}
 use Rattle.hsr_health.specs.declared.load.Weighed.{Weighed}
@@ -238,3 +239,24 @@ loads_more looked packets loads new i is_looked own long here is own_is all k x 
         let looks : is_looked ≡ is_at looked i = ap (λ o. unwrap_or o false) (sym here) in
         subst (λ n. x ≡ load_if (is_at looked n) (own_packets n packets)) at_i
         (sym same ∙ own_is ∙ ap (λ b. load_if b (own_packets i packets)) looks)
+
+-- an interface that is looked at has a tally
+some_tally : (b : Bool) (tally : Tally) → is_some (tally_if b tally) ≡ b
+some_tally true tally = refl
+some_tally false tally = refl
+
+-- the same interfaces are looked at as have tallies
+pub loads_looked : (choice : ChoiceFields) (interfaces : List InterfaceFields) (first looked : List Bool) (packets : List PacketFields) (tallies : List (Option Tally)) (loads : List Load)
+    → AreLookedAt choice interfaces first → AreLookedAt choice interfaces looked → AreTalliesIf looked packets tallies → length tallies ≡ length looked → length loads ≡ length first
+    → AreLoads first packets loads → AreLoads (map is_some tallies) packets loads
+loads_looked choice interfaces first looked packets tallies loads looks again are long many all i own here =
+    let below : i < length first = omega (arith, slice_get_within loads i own here, many) in
+    let alike : slice_get first i ≡ slice_get looked i = looks.each i ∙ sym (again.each i) in
+    let there : slice_get looked i ≡ Some (get_or first i false) = sym alike ∙ slice_get-get_or first i false below in
+    let inside : i < length tallies = omega (arith, slice_get_within looked i (get_or first i false) there, long) in
+    let tally = get_or tallies i None in
+    let at_i : slice_get tallies i ≡ Some tally = slice_get-get_or tallies i None inside in
+    let told : is_some tally ≡ is_at looked i = ap is_some (are i tally at_i) ∙ some_tally (is_at looked i) _ in
+    let has : is_at (map is_some tallies) i ≡ is_some tally = ap (λ o. unwrap_or o false) (slice_get-map is_some tallies i ∙ ap (option_map is_some) at_i) in
+    let same : is_at first i ≡ is_at looked i = ap (λ o. unwrap_or o false) alike in
+    all i own here ∙ ap (λ b. load_if b (own_packets i packets)) (same ∙ sym told ∙ sym has)

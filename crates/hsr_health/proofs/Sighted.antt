@@ -1,7 +1,6 @@
 -- From the sightings that the code keeps to those of the definitions: they are the same, one by one.
-use Rattle.std.proofs.Common.{◌≡◌, ℕ, zero, suc, ◌+◌, ◌-◌, ◌<◌, ◌≤◌, ◌&&◌, ◌||◌, not, Bool, true, false, cond, List, [], ◌∷◌, ◌++◌, get_or, length, reverse, take, ◌⊎◌, inl, inr, refl, sym, ap, subst, ◌∙◌, arith, Option, Some, None}
-use Rattle.std.specs.List.{list_any}
-use Rattle.std.specs.Prelude.{nat_eq, nat_lt, count_by, filter, is_some, option_map, slice_get}
+use Rattle.std.proofs.Common.{◌≡◌, ℕ, zero, suc, ◌+◌, ◌<◌, ◌≤◌, ◌&&◌, ◌||◌, Bool, true, false, cond, List, [], ◌∷◌, ◌++◌, get_or, length, reverse, take, ◌⊎◌, inl, inr, refl, sym, ap, subst, ◌∙◌, arith, Option, Some, None}
+use Rattle.std.specs.Prelude.{count_by, filter, is_some, option_map, slice_get}
 use Rattle.std.proofs.lemmas.Bool.{cases_lt, eqb-true, cases_order}
 use Rattle.std.proofs.lemmas.List.{reverse-append, take_all, take_more}
 use Rattle.std.proofs.lemmas.List.Sorted.{IsPermutation-reverse, sum_by-IsPermutation}
@@ -11,11 +10,9 @@ use Rattle.hsr_frame_groups.specs.Frames.{CaughtFields, past_of}
 use Rattle.hsr_sightings.specs.Copies.{begins_there, first_of_past}
 use Rattle.hsr_sightings.specs.Frames.{frame_of}
 use Rattle.hsr_sightings.specs.Read.{AreSightings, IsBegun, IsSighting, first_by}
-use Rattle.hsr_sightings.specs.Ring.{Ring, forget_time, goes, point_of}
-use Rattle.hsr_sightings.specs.Seen.{came_both, fate_of, is_edge}
-use Rattle.hsr_sightings.specs.Sightings.{Sighting as Seen, came_both_ways, came_by, first_seen, is_at_edge, is_first_at_edge, is_more, is_once, is_open, is_twice, sighting, sightings, sightings_in}
-use Rattle.hsr_sightings.specs.declared.sighting.Fate.{Fate}
-use Rattle.hsr_sightings.specs.declared.sighting.Fate.TheVariants as the_fate
+use Rattle.hsr_sightings.specs.Ring.{Ring, goes, point_of}
+use Rattle.hsr_sightings.specs.Seen.{came_both, is_edge}
+use Rattle.hsr_sightings.specs.Sightings.{Sighting as Seen, came_both_ways, came_by, first_seen, is_at_edge, is_first_at_edge, is_more, sighting, sightings, sightings_in}
 use Rattle.hsr_sightings.specs.Fields.{Sighting}
 use Rattle.hsr_sightings.proofs.Demanding.{begins_by, first_is}
 use Rattle.hsr_sightings.proofs.Gathering.{has_seen}

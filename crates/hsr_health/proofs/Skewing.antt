@@ -1,5 +1,5 @@
 -- The skews of a source, by definition.
-use Rattle.std.proofs.Common.{◌≡◌, ℕ, ◌+◌, ◌-◌, ◌/◌, ◌<◌, Bool, true, false, cond, List, [], ◌∷◌, ◌++◌, get_or, length, map, reverse, ◌⊎◌, inl, inr, refl, sym, ap, subst, ◌∙◌, arith, Option, Some, None}
+use Rattle.std.proofs.Common.{◌≡◌, ℕ, ◌/◌, Bool, true, false, cond, List, [], ◌∷◌, ◌++◌, map, reverse, ◌⊎◌, inl, inr, refl, sym, ap, subst, ◌∙◌, arith, Option, Some, None}
 use Rattle.std.specs.List.{cons_option}
 use Rattle.std.specs.Prelude.{nat_eq, filter, filter_map, option_map, slice_get, slice_index, IsPermutation}
 use Rattle.std.proofs.lemmas.Bool.{cases_eq, eq-eqb, ne_eqb}
@@ -8,13 +8,13 @@ use Rattle.std.proofs.lemmas.List.Elements.{filter-append, filter_map-append}
 use Rattle.std.proofs.lemmas.List.Sorted.{IsPermutation-reverse, IsPermutation-trans, length_permutation}
 use Rattle.std.proofs.lemmas.Option.{same_Some, slice_get-get_or, slice_get_within}
 use Rattle.hsr_frame_groups.specs.Frames.{CaughtFields}
-use Rattle.hsr_sightings.specs.Read.{AreSightings, first_by}
+use Rattle.hsr_sightings.specs.Read.{AreSightings}
 use Rattle.hsr_sightings.specs.Ring.{Ring, goes}
 use Rattle.hsr_sightings.specs.Seen.{skew_of}
 use Rattle.hsr_sightings.specs.Sightings.{Sighting as Seen, apart, first_seen, sightings, skew}
 use Rattle.hsr_sightings.specs.Fields.{Sighting}
 use Rattle.hsr_health.specs.Counted.{AreSources, is_of, skews_of, told_by}
-use Rattle.hsr_spread.specs.Spreads.{IsSpread, IsSpreadOf, amounts_of}
+use Rattle.hsr_spread.specs.Spreads.{IsSpread, amounts_of}
 use Rattle.hsr_spread.specs.declared.spread.Spread.{Spread}
 use Rattle.hsr_spread.specs.declared.spread.Told.{Told}
 use Rattle.hsr_health.proofs.Sighted.{AreSeenAs, IsSeenAs, all_seen}

@@ -1,5 +1,5 @@
 //! What sources and their supervision tell.
-ghost use Rattle.std.specs.Prelude.{◌≡◌, List, length, IfOk};
+ghost use Rattle.std.specs.Prelude.{◌≡◌, ◌≤◌, List, length, IfOk};
 ghost use Rattle.hsr_health.specs.Counted.{AreSources, changed};
 ghost use Rattle.hsr_health.specs.Whole.{AreAlike, AreAsMany, AreCaught, AreMore, IsKnown, IsSeen, life_put, lives_of, one_life, one_unreadable, unreadable_of};
 ghost use Rattle.hsr_taps.specs.declared.direction.Taps as the_taps;
@@ -108,6 +108,7 @@ pub(crate) fn known_of(
 ) -> Result<Known, NoMemory>
     requires caught { AreCaught ring.now copies.now }
     requires sources { AreSources copies.now sources.now.macs.items sources.now.of_copy.items }
+    requires few { length sources.now.macs.items ≤ 1024 }
     requires seen { (taps : List the_taps.Taps) × IsSeen ring.now copies.now taps seen.now }
     ensures { IfOk result (λ known. IsKnown ring.now copies.now sources.now seen.now known) }
 {

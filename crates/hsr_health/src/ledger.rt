@@ -1,15 +1,15 @@
 //! The numbers of sources: gaps and restarts. A RedBox and its stations count together, so they are one group.
-ghost use Rattle.std.specs.Prelude.{◌≡◌, ◌<◌, ◌≤◌, ◌^◌, ◌++◌, ℕ, Bool, List, filter_map, find, length, map, option_to_list, slice_index, IfOk, OnOk};
+ghost use Rattle.std.specs.Prelude.{◌≡◌, ◌<◌, ◌≤◌, ◌^◌, ◌++◌, ℕ, Bool, List, filter_map, find, length, map, option_to_list, slice_get, slice_index, IfOk, OnOk, Some};
 ghost use Rattle.hsr_frame.specs.Address.{is_same_address};
 ghost use Rattle.hsr_health.specs.Counted.{changed, mark_of};
 ghost use Rattle.hsr_heard.specs.Hearing.{those_of};
 ghost use Rattle.hsr_health.specs.Numbering.{AreByRun, AreGroups, IsFirstSame, IsLedger, group_name, is_numbered, life_number, number_if, numbered_at, sums_by, with_gap, with_gaps, with_restart, with_restarts};
-ghost use Rattle.hsr_number_runs.specs.Counting.{AreRunsOf, AreSoFar};
+ghost use Rattle.hsr_number_runs.specs.Runs.{AreRunsOf};
 ghost use Rattle.hsr_number_runs.specs.declared.run.Numbered.{Numbered};
 ghost use Rattle.hsr_sightings.specs.Ring as the_ring;
 ghost use Rattle.hsr_sightings.specs.Read.{TellsEach};
 
-use crate::counts::{Marks, source_of};
+use crate::counts::Marks;
 use hsr_frame::{Mac, NoMemory};
 use hsr_frame_groups::Caught;
 use hsr_heard::{About, Heard};
@@ -99,21 +99,26 @@ pub(crate) fn groups_of(
     Ok(groups)
 }
 
-/// The group of a source.
-fn group_of(groups: &[usize], source: usize) -> usize
-    ensures { result ≡ slice_index groups.now source }
+/// The source of a copy, as the number of a sender.
+fn sender_of(of_copy: &[u32], copy: u32) -> u32
+    ensures { result ≡ slice_index of_copy.now copy }
 {
-    groups.get(source).copied().unwrap_or(0)
+    of_copy.get(copy as usize).copied().unwrap_or(0)
+}
+
+/// The group of a sender, by the groups of sources. There are at most 1024 of them.
+fn group_of(groups: &[usize], sender: u32) -> u32
+    requires { (k group : ℕ) → slice_get groups.now k ≡ Some group → group < 2 ^ 32 }
+    ensures { result ≡ slice_index groups.now sender }
+{
+    match groups.get(sender as usize) {
+        None => 0,
+        Some(group) => *group as u32,
+    }
 }
 
 /// The number of a copy that begins a frame and is no clash.
-fn number_if(
-    caught: &Caught<'_>,
-    marks: Marks,
-    i: u32,
-    sender: usize,
-    group: usize,
-) -> Option<Numbered>
+fn number_if(caught: &Caught<'_>, marks: Marks, i: u32, sender: u32, group: u32) -> Option<Numbered>
     ensures { result ≡ number_if i sender group (is_numbered marks) caught.now }
 {
     if marks.begins && !marks.is_clash {
@@ -129,19 +134,19 @@ fn number_if(
     }
 }
 
-/// Puts a number into its run, if there is one.
+/// With a number in its run, if there is one.
 fn put_number(
     alloc: Global,
-    so_far: &mut RunsSoFar,
+    so_far: RunsSoFar,
     number: Option<Numbered>,
-) -> Result<(), NoMemory>
-    requires { (past : List Numbered) × AreSoFar so_far.old past × (length past < 2 ^ 31) }
-    ensures { OnOk result ((past : List Numbered) → length past < 2 ^ 31 → AreSoFar so_far.old past → AreSoFar so_far.new (option_to_list number ++ past)) }
+) -> Result<RunsSoFar, NoMemory>
+    requires { length so_far < 2 ^ 31 }
+    ensures { IfOk result (λ more. more ≡ so_far ++ option_to_list number) }
 {
-    if let Some(number) = number {
-        so_far.put(alloc, number)?;
+    match number {
+        None => Ok(so_far),
+        Some(number) => Ok(so_far.put(alloc, number)?),
     }
-    Ok(())
 }
 
 /// The numbers of frames in their runs, in the order of time: those of copies that begin one and are no clash.
@@ -153,16 +158,17 @@ pub(crate) fn frame_runs(
     marks: &[Marks],
 ) -> Result<Runs, NoMemory>
     requires few { length copies.now < 2 ^ 31 }
+    requires small { (k group : ℕ) → slice_get groups.now k ≡ Some group → group < 2 ^ 32 }
     requires marks { length marks.now ≡ length copies.now }
     ensures { IfOk result (λ runs. (is_by_lane : ℕ → Bool) (ring : the_ring.Ring) → TellsEach (mark_of is_by_lane ring) copies.now marks.now
         → AreRunsOf (those_of (numbered_at of_copy.now groups.now) copies.now) runs) }
 {
     let mut so_far = RunsSoFar::with_capacity(alloc, copies.len())?;
     for i in 0..copies.len() {
-        let sender = source_of(of_copy, i as u32);
+        let sender = sender_of(of_copy, i as u32);
         let group = group_of(groups, sender);
         let number = number_if(&copies[i], marks[i], i as u32, sender, group);
-        put_number(alloc, &mut so_far, number)?;
+        so_far = put_number(alloc, so_far, number)?;
     }
     Ok(so_far.runs())
 }
@@ -172,7 +178,7 @@ fn life_number(one: &Heard, of_copy: &[u32]) -> Option<Numbered>
     ensures { result ≡ life_number of_copy.now one.now }
 {
     if one.begins {
-        let sender = source_of(of_copy, one.copy);
+        let sender = sender_of(of_copy, one.copy);
         Some(Numbered {
             group: sender,
             sender,
@@ -192,7 +198,7 @@ pub(crate) fn life_runs(alloc: Global, heard: &[Heard], of_copy: &[u32]) -> Resu
 {
     let mut so_far = RunsSoFar::with_capacity(alloc, heard.len())?;
     for one in heard {
-        put_number(alloc, &mut so_far, life_number(one, of_copy))?;
+        so_far = put_number(alloc, so_far, life_number(one, of_copy))?;
     }
     Ok(so_far.runs())
 }
@@ -224,8 +230,9 @@ fn count_gap(numbers: &mut Vec<GroupNumbers>, gap: &Gap)
     ensures long { length numbers.new.items ≡ length numbers.old.items }
     ensures numbers { numbers.new.items ≡ changed (with_gap gap.now) gap.now.group numbers.old.items }
 {
-    if gap.group < numbers.len() {
-        numbers[gap.group] = with_gap(numbers[gap.group], gap);
+    let group = gap.group as usize;
+    if group < numbers.len() {
+        numbers[group] = with_gap(numbers[group], gap);
     }
 }
 
@@ -234,8 +241,9 @@ fn count_restart(numbers: &mut Vec<GroupNumbers>, restart: &Restart)
     ensures long { length numbers.new.items ≡ length numbers.old.items }
     ensures numbers { numbers.new.items ≡ changed with_restart restart.now.group numbers.old.items }
 {
-    if restart.group < numbers.len() {
-        numbers[restart.group] = with_restart(numbers[restart.group]);
+    let group = restart.group as usize;
+    if group < numbers.len() {
+        numbers[group] = with_restart(numbers[group]);
     }
 }
 

@@ -76,7 +76,7 @@ fn is_before(a: &Gap, b: &Gap) -> bool
 fn is_counted(counted: &[bool], gap: &Gap) -> bool
     ensures { result ≡ is_in counted.now gap.now.group }
 {
-    counted.get(gap.group).copied().unwrap_or(false)
+    counted.get(gap.group as usize).copied().unwrap_or(false)
 }
 
 /// The gaps of some groups.
@@ -133,7 +133,7 @@ fn lost_what(macs: &[Mac], first: Gap) -> What
     ensures { result ≡ lost_what macs.now first }
 {
     What::Numbers {
-        source: mac_of(macs, first.sender),
+        source: mac_of(macs, first.sender as usize),
         first: first.first,
         last: first.last,
         missing: first.missing,
@@ -145,7 +145,7 @@ fn life_what(macs: &[Mac], first: Gap) -> What
     ensures { result ≡ life_what macs.now first }
 {
     What::Life {
-        source: mac_of(macs, first.sender),
+        source: mac_of(macs, first.sender as usize),
         number: first.last.wrapping_add(1),
         after: first.first.wrapping_sub(1),
     }
@@ -205,7 +205,7 @@ fn restart_what(macs: &[Mac], first: Restart) -> What
     ensures { result ≡ restart_what macs.now first }
 {
     What::Restart {
-        source: mac_of(macs, first.sender),
+        source: mac_of(macs, first.sender as usize),
         number: first.number,
         after: first.after,
     }

@@ -1,12 +1,12 @@
 //! What came by the taps of a capture, and when.
-ghost use Rattle.std.specs.Prelude.{◌≡◌, ◌-◌, is_some, length, map, slice_get, IfOk};
+ghost use Rattle.std.specs.Prelude.{◌≡◌, ◌-◌, length, slice_get, IfOk};
 ghost use Rattle.hsr_health.specs.Whole.{IsBounded, IsInTime, IsTraffic, end_by, moment_or};
 
 use crate::load::{Load, loads_of};
 use hsr_capture_reader::{Capture, Interface, Losses, Packet};
 use hsr_frame::NoMemory;
 use hsr_packet_order::{Disorder, disorder_of, sort_by_time};
-use hsr_taps::{Choice, Tapped, tap};
+use hsr_taps::{Choice, Tapped, looked_at, tap};
 use std::alloc::Global;
 
 /// The moment of the first of packets.
@@ -27,17 +27,6 @@ fn last_moment(packets: &[Packet<'_>], end: u64) -> u64
         Some(last) => last.moment.max(end),
         None => 0,
     }
-}
-
-/// Of each interface whether it is looked at.
-fn looked_at(alloc: Global, tapped: &Tapped<'_>) -> Result<Vec<bool>, NoMemory>
-    ensures { IfOk result (λ looked. looked.items ≡ map is_some tapped.now.tallies.items) }
-{
-    let mut looked = Vec::new(alloc);
-    for tally in &tapped.tallies {
-        looked.push(tally.is_some())?;
-    }
-    Ok(looked)
 }
 
 /// Packets in the order of time; those of one moment stay as they stood.
@@ -96,9 +85,10 @@ pub(crate) fn traffic_of<'a>(
     let sorted = in_time(packets)?;
     let by_number = interfaces.as_slice();
     let in_order = sorted.as_slice();
-    let tapped = tap(alloc, by_number, in_order, choice)?;
-    let looked = looked_at(alloc, &tapped)?;
+    // Loads need much room for themselves, so they come before the copies, which stay.
+    let looked = looked_at(alloc, by_number, choice)?;
     let loads = loads_of(alloc, in_order, looked.as_slice())?;
+    let tapped = tap(alloc, by_number, in_order, choice)?;
     let start = first_moment(in_order);
     let end = last_moment(in_order, end);
     // The packets go here: nothing more is told of them, and they take nearly as much room as the copies.

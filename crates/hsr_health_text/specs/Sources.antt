@@ -1,5 +1,5 @@
 -- Sources and whom supervision tells of.
-use Rattle.std.specs.Prelude.{ℕ, ◌-◌, ◌==◌, ◌&&◌, nat_lt, Bool, if◌then◌else◌, List, [], ◌++◌, codes, length, Option, Some, None, option_map, slice_get, unwrap_or}
+use Rattle.std.specs.Prelude.{ℕ, ◌-◌, ◌==◌, ◌&&◌, nat_lt, if◌then◌else◌, List, [], ◌++◌, codes, length, Option, Some, None, option_map, slice_get, unwrap_or}
 use Rattle.std.specs.List.{flat_map, range_with_len}
 use Rattle.hsr_supervision.specs.declared.payload.SupKind.{SupKind}
 use Rattle.hsr_supervision.specs.declared.payload.SupKind.TheVariants as kind

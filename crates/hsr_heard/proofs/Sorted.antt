@@ -14,7 +14,8 @@ use Rattle.std.proofs.lemmas.Slice.Eq.{bytes_eq-Decides}
 use Rattle.hsr_address.specs.Numbers.{number_of}
 use Rattle.hsr_address.proofs.Numbering.{same_by_number}
 use Rattle.hsr_frame.specs.Address.{IsAddress}
-use Rattle.hsr_heard.specs.Subjects.{IsRun, is_about, key_of, those_about}
+use Rattle.hsr_heard.specs.Finding.{IsRun, key_of}
+use Rattle.hsr_heard.specs.Subjects.{is_about, those_about}
 use Rattle.hsr_heard.specs.declared.heard.Heard.{Heard}
 
 -- ---- parts of lists

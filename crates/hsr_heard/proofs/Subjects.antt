@@ -10,7 +10,8 @@ use Rattle.std.proofs.lemmas.Option.{get_or_from_slice_get, same_Some, slice_get
 use Rattle.hsr_address.specs.Numbers.{number_of}
 use Rattle.hsr_sightings.proofs.Counting.{slice_get_end, slice_get_left}
 use Rattle.hsr_sightings.proofs.Gathering.{slice_get_push}
-use Rattle.hsr_heard.specs.Subjects.{AreAbouts, IsAbout, IsAboutOf, IsRun, IsToldOf, PutsAbout, PutsOne, Rise, frames_about, frames_in, is_about, key_of, moment_of, silences_among, silences_of, steps_from, those_about}
+use Rattle.hsr_heard.specs.Finding.{IsRun, PutsAbout, PutsOne, key_of, moment_of}
+use Rattle.hsr_heard.specs.Subjects.{AreAbouts, IsAbout, IsAboutOf, IsToldOf, Rise, frames_about, frames_in, is_about, silences_among, silences_of, steps_from, those_about}
 use Rattle.hsr_heard.specs.declared.abouts.About.{About}
 use Rattle.hsr_heard.specs.declared.abouts.Abouts.{Abouts}
 use Rattle.hsr_heard.specs.declared.abouts.Silence.{Silence}

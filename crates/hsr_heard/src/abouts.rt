@@ -3,7 +3,8 @@ ghost use Rattle.std.specs.Prelude.{◌≡◌, ◌-◌, ◌/◌, ◌<◌, ◌≤
 ghost use Rattle.std.specs.List.Sorted.{IsSortedByKey, IsStableByKey};
 ghost use Rattle.std.specs.Ordering.{nat_cmp};
 ghost use Rattle.hsr_frame.specs.Address.{IsAddress};
-ghost use Rattle.hsr_heard.specs.Subjects.{AreAbouts, IsAboutBy, IsRun, PutsAbout, frames_in, from_first, is_by, key_of, last_by, silence_between, silences_of, steps_of};
+ghost use Rattle.hsr_heard.specs.Finding.{IsRun, PutsAbout, key_of};
+ghost use Rattle.hsr_heard.specs.Subjects.{AreAbouts, IsAboutBy, frames_in, from_first, is_by, last_by, silence_between, silences_of, steps_of};
 
 use crate::heard::Heard;
 use hsr_address::number_of;

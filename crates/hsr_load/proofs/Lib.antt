@@ -1,5 +1,4 @@
 pub mod Summing
 pub mod Worst
 pub mod Listing
-mod Padding
 mod Most

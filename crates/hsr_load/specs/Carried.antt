@@ -13,7 +13,7 @@ use Rattle.hsr_topology.specs.declared.end.End.{End}
 use Rattle.hsr_run_laws.specs.Budget.{moment_of}
 use Rattle.hsr_run_laws.specs.Run.{Run, ends_of, from_end, rows_of, to_end}
 use Rattle.hsr_timeline.specs.Hops.{passed_place}
-use Rattle.hsr_load.specs.Wire.{wire_octets}
+use Rattle.hsr_wire.specs.Octets.{wire_octets}
 use Rattle.hsr_load.specs.declared.transit.Transit.{Transit}
 
 -- what was put on a link that was down, or found its queue full, went nowhere

@@ -1,4 +1,3 @@
-pub mod Wire
 pub mod Carried
 pub mod Windows
 pub mod Sums

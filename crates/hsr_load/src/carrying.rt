@@ -5,10 +5,9 @@ ghost use Rattle.hsr_link.specs.declared.row.Dir.TheVariants.{Forth as forth, Ba
 ghost use Rattle.hsr_run_laws.specs.Run.{rows_of};
 ghost use Rattle.hsr_timeline.specs.Hops.{passed_place, passed_places};
 ghost use Rattle.hsr_load.specs.Carried.{channel_of, channels, is_carried, moment_by, transit_by, transits};
-ghost use Rattle.hsr_load.specs.Wire.{wire_octets};
+ghost use Rattle.hsr_wire.specs.Octets.{wire_octets};
 
 use crate::transit::Transit;
-use crate::wire::wire_octets;
 use hsr_finished_run::Closed;
 use hsr_frame::NoMemory;
 use hsr_link::{Dir, Fate, Row};
@@ -16,6 +15,7 @@ use hsr_moments::Moments;
 use hsr_node::Probe;
 use hsr_timeline::passed_places;
 use hsr_topology::End;
+use hsr_wire::wire_octets;
 use std::alloc::Global;
 use std::marker::Model;
 

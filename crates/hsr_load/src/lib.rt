@@ -2,7 +2,6 @@
 //! was over the whole run and in its worst millisecond.
 //!
 //! Its modules, in the order in which to read them:
-//! - `wire`: how many octets of a link a frame takes
 //! - `transit`: a copy that a channel carried
 //! - `carrying`: what each channel carried
 //! - `span`: how long copies went over the channels
@@ -17,7 +16,6 @@ mod loading;
 mod span;
 mod transit;
 mod window;
-mod wire;
 
 pub use load::{ChannelLoad, Load};
 pub use loading::load_of;

@@ -12,3 +12,4 @@ pub mod Holds
 pub mod Cell
 pub mod Words
 pub mod Refusal
+pub mod Octets

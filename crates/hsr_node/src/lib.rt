@@ -3,7 +3,7 @@
 //! Its modules, in the order in which to read them:
 //! - `place`: what kind of node stands at a place
 //! - `role`: the roles of places, and the letters of their ports
-//! - `octets`: octets that are owned
+//! - `octets`: octets that are owned, alone or together with others
 //! - `event`: what happens to a node, and what it answers
 //! - `refusal`: why a node refuses an event, as a word
 //! - `entry`: what a record holds

@@ -1,23 +1,54 @@
-//! Octets that are owned.
+//! Octets that are owned, alone or together with others.
 ghost use Rattle.std.specs.Prelude.{◌≡◌, ◌≤◌, length, vec_capacity, IfOk};
+ghost use Rattle.hsr_node.specs.Octets.{octets_in};
 
 use hsr_frame::NoMemory;
 use hsr_tag::Spelled;
 use std::alloc::{AllocError, Global};
 use std::marker::Model;
+use std::sync::ArcSlice;
 
-/// Octets of a payload or of a copy on its way, of any number.
+/// Where octets stand: in room of their own, or in room that all copies of them share.
 #[derive(Debug, Drop)]
+enum Room {
+    Own(Vec<u8>),
+    Shared(ArcSlice<u8>),
+}
+
+/// Octets of a payload or of a copy on its way, of any number. A clone of octets that came from a slice or a frame takes no
+/// room of its own.
+#[derive(Debug)]
 pub struct Octets {
-    bytes: Vec<u8>,
+    room: Room,
 }
 
 impl Model for Octets {
     ghost use Rattle.std.specs.Prelude.{ℕ, List};
+    ghost use Rattle.hsr_node.specs.Octets.{octets_in};
 
     ghost Value = { List ℕ };
 
-    ghost view = { λ o. o.bytes.items };
+    ghost view = { λ o. octets_in o.room };
+}
+
+/// The octets of a frame, in room that is enough for them and holds nothing else then.
+fn spelled_bytes(room: Vec<u8>, spelled: &Spelled<'_>) -> Vec<u8>
+    requires { length spelled.now ≤ vec_capacity room }
+    ensures { result.items ≡ spelled.now }
+{
+    let mut bytes = room;
+    bytes.clear();
+    let (head, rest) = spelled.pieces();
+    // Neither is refused: the room is enough by `requires`.
+    let Ok(()) = bytes.extend_from_slice(head) else {
+        unreachable!()
+    };
+    let Ok(()) = bytes.extend_from_slice(rest) else {
+        unreachable!()
+    };
+    // The room may have been made for the longest frame, before it was known which one leaves.
+    bytes.shrink_to_fit();
+    bytes
 }
 
 impl Octets {
@@ -25,15 +56,26 @@ impl Octets {
     pub fn new(bytes: Vec<u8>) -> Octets
         ensures { result ≡ bytes.items }
     {
-        Octets { bytes }
+        Octets {
+            room: Room::Own(bytes),
+        }
+    }
+
+    /// These octets, in room that its clones will share; `NoMemory` if allocation fails.
+    fn shared(bytes: Vec<u8>) -> Result<Octets, NoMemory>
+        ensures { IfOk result (λ octets. octets ≡ bytes.items) }
+    {
+        let bytes = ArcSlice::from_vec(bytes)?;
+        Ok(Octets {
+            room: Room::Shared(bytes),
+        })
     }
 
     /// A copy of these octets; `NoMemory` if allocation fails.
     pub fn from_slice(alloc: Global, bytes: &[u8]) -> Result<Octets, NoMemory>
         ensures { IfOk result (λ octets. octets ≡ bytes.now) }
     {
-        let bytes = Vec::from_slice(alloc, bytes)?;
-        Ok(Octets { bytes })
+        Octets::shared(Vec::from_slice(alloc, bytes)?)
     }
 
     /// The octets of a frame, in room that is enough for them; what the room held is gone, and what is not needed given
@@ -42,19 +84,8 @@ impl Octets {
         requires { length spelled.now ≤ vec_capacity room }
         ensures { result ≡ spelled.now }
     {
-        let mut bytes = room;
-        bytes.clear();
-        let (head, rest) = spelled.pieces();
-        // Neither is refused: the room is enough by `requires`.
-        let Ok(()) = bytes.extend_from_slice(head) else {
-            unreachable!()
-        };
-        let Ok(()) = bytes.extend_from_slice(rest) else {
-            unreachable!()
-        };
-        // The room was made for the longest frame, before it was known which one leaves.
-        bytes.shrink_to_fit();
-        Octets { bytes }
+        // Room to share would have to be asked for, and here nothing may be refused.
+        Octets::new(spelled_bytes(room, spelled))
     }
 
     /// The octets of a frame; `NoMemory` if allocation fails.
@@ -62,14 +93,37 @@ impl Octets {
         ensures { IfOk result (λ octets. octets ≡ spelled.now) }
     {
         let room = Vec::with_capacity(alloc, spelled.len())?;
-        Ok(Octets::spelled_in(room, spelled))
+        Octets::shared(spelled_bytes(room, spelled))
     }
 
     /// The octets, in order.
     pub fn as_slice(&self) -> &[u8]
         ensures { result.now ≡ self.now }
     {
-        self.bytes.as_slice()
+        match &self.room {
+            Room::Own(bytes) => bytes.as_slice(),
+            Room::Shared(bytes) => bytes.as_slice(),
+        }
+    }
+}
+
+impl Room {
+    /// The same octets in room to share: in the same room, where it is such.
+    fn share(&self) -> Result<Room, AllocError>
+        ensures { IfOk result (λ room. octets_in room ≡ octets_in self.now) }
+    {
+        let bytes = match self {
+            Room::Own(bytes) => ArcSlice::from_slice(*bytes.allocator(), bytes.as_slice())?,
+            Room::Shared(bytes) => bytes.clone()?,
+        };
+        Ok(Room::Shared(bytes))
+    }
+}
+
+impl Drop for Octets {
+    // A call, and no derive: else each function that lets octets go would be proved for each kind of room.
+    fn drop(self) {
+        let Octets { room: _room } = self;
     }
 }
 
@@ -79,8 +133,8 @@ impl Clone for Octets {
     ghost is_clone = { λ a b. b ≡ a };
 
     fn clone(&self) -> Result<Octets, AllocError> {
-        let bytes = Vec::from_slice(*self.bytes.allocator(), self.as_slice())?;
-        Ok(Octets { bytes })
+        let room = self.room.share()?;
+        Ok(Octets { room })
     }
 }
 

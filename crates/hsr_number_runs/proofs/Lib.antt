@@ -1,2 +1,3 @@
 pub mod Running
+pub mod Back
 pub mod Standing

@@ -5,8 +5,7 @@ use Rattle.hsr_number_runs.specs.declared.run.Counting.{Counting}
 use Rattle.hsr_number_runs.specs.declared.run.InRun.{InRun}
 use Rattle.hsr_number_runs.specs.declared.run.Numbered.{Numbered}
 use Rattle.hsr_number_runs.specs.declared.run.Placed.{Placed}
-use Rattle.hsr_number_runs.specs.declared.run.RunsSoFar.{RunsSoFar}
-use Rattle.hsr_number_runs.specs.declared.run.Runs.{Runs}
+use Rattle.hsr_number_runs.specs.declared.run.Restart.{Restart}
 use Rattle.hsr_number_runs.specs.Runs.{in_run, in_runs, is_there, restart_of, restarts_in, run_count, top_of}
 
 -- a run and a block of eight extended numbers are the same
@@ -37,15 +36,12 @@ pub record IsPlaced (before : List InRun) (n : Numbered) (placed : Placed) : Typ
   pub restart : placed.restart ≡ restart_of before n
   pub number : n.number < 2 ^ 16
 
--- numbers, the latest first, are put into runs: their sum of runs and their greatest numbers have room
-pub record AreSoFar (so_far : RunsSoFar) (past : List Numbered) : Type 0 where
-  pub knows : Knows so_far.counting (in_runs past)
+-- Numbers, the latest first, are put into runs: the sum of runs and the greatest numbers have room, and each of these can be counted back
+-- from.
+pub record AreSoFar (counting : Counting) (done : List InRun) (told : List Restart) (past : List Numbered) : Type 0 where
+  pub knows : Knows counting (in_runs past)
   pub few : run_count (in_runs past) ≤ length past
   pub small : (group : ℕ) → IfSome (top_of group (in_runs past)) (λ top. top.extended ≤ 131072 + 32768 * length past)
-  pub placed : so_far.in_runs.items ≡ reverse (in_runs past)
-  pub begun : so_far.restarts.items ≡ restarts_in past
-
--- numbers in the order of time in their runs, and the restarts among them
-pub record AreRunsOf (numbers : List Numbered) (runs : Runs) : Type 0 where
-  pub placed : runs.in_runs.items ≡ reverse (in_runs (reverse numbers))
-  pub begun : runs.restarts.items ≡ restarts_in (reverse numbers)
+  pub large : (group : ℕ) → IfSome (top_of group (in_runs past)) (λ top. 65536 ≤ top.extended)
+  pub placed : done ≡ reverse (in_runs past)
+  pub begun : told ≡ restarts_in past

@@ -4,11 +4,14 @@
 --     in_run          a number in its run
 --     in_runs         numbers in their runs
 --     restarts_in     the numbers that began a new run behind another one
-use Rattle.std.specs.Prelude.{ℕ, ◌+◌, ◌-◌, ◌%◌, ◌==◌, ◌&&◌, ◌||◌, max, nat_le, nat_lt, Bool, if◌then◌else◌, List, [], ◌∷◌, ◌++◌, Option, Some, None, unwrap_or, option_to_list}
+--     AreRunsOf       numbers in the order of time, in their runs, and the restarts among them
+--     numbers_of      the numbers that stand in runs
+use Rattle.std.specs.Prelude.{ℕ, ◌+◌, ◌-◌, ◌%◌, ◌==◌, ◌&&◌, ◌||◌, max, nat_le, nat_lt, Bool, if◌then◌else◌, List, [], ◌∷◌, ◌++◌, map, reverse, ◌≡◌, Option, Some, None, unwrap_or, option_to_list}
 use Rattle.std.specs.List.{list_any}
 use Rattle.hsr_number_runs.specs.declared.run.InRun.{InRun}
 use Rattle.hsr_number_runs.specs.declared.run.Numbered.{Numbered}
 use Rattle.hsr_number_runs.specs.declared.run.Restart.{Restart}
+use Rattle.hsr_number_runs.specs.declared.run.Runs.{Runs}
 
 -- how long a node remembers a frame, in nanoseconds
 abbrev pub forget_time : ℕ
@@ -93,3 +96,17 @@ restart_of before n = restart_by n (top_of n.group before) (gone_on before n (to
 abbrev pub restarts_in : List Numbered → List Restart
 restarts_in [] = []
 restarts_in (n ∷ past) = restarts_in past ++ option_to_list (restart_of (in_runs past) n)
+
+-- ---- all together
+
+-- numbers in the order of time in their runs, and the restarts among them
+pub record AreRunsOf (numbers : List Numbered) (runs : Runs) : Type 0 where
+  pub placed : runs.in_runs.items ≡ reverse (in_runs (reverse numbers))
+  pub begun : runs.restarts.items ≡ restarts_in (reverse numbers)
+
+-- a number that stands in a run
+abbrev pub number_of : InRun → Numbered
+number_of p = record { at = p.at; group = p.group; sender = p.sender; copy = p.copy; number = p.extended % 65536 }
+
+abbrev pub numbers_of : List InRun → List Numbered
+numbers_of placed = map number_of placed

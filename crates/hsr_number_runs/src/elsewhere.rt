@@ -56,9 +56,9 @@ fn put_number(told: &mut Vec<Told>, p: InRun, place: usize)
     ensures told { (before : List InRun) → AreTold before place told.old.items → AreTold (p ∷ before) (place + 1) told.new.items }
     ensures long { length told.new.items ≡ length told.old.items }
 {
-    if p.sender < told.len() {
-        let own = with_number(told[p.sender], p, place);
-        told[p.sender] = own;
+    let sender = p.sender as usize;
+    if sender < told.len() {
+        told[sender] = with_number(told[sender], p, place);
     }
 }
 

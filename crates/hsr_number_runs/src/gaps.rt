@@ -9,9 +9,9 @@ use std::alloc::Global;
 /// Numbers of a run that never came, all those between two that did. It is told at the copy behind it.
 #[derive(Clone, Copy, Debug, PartialEq, Eq)]
 pub struct Gap {
-    pub group: usize,
+    pub group: u32,
     /// Who sent the number behind it.
-    pub sender: usize,
+    pub sender: u32,
     pub first: u16,
     pub last: u16,
     pub missing: u64,

@@ -1,14 +1,14 @@
 //! Numbers put into the run of their group, or into a new one.
 ghost use Rattle.std.specs.Prelude.{◌≡◌, ℕ, ◌+◌, ◌<◌, ◌^◌, ◌∷◌, ◌++◌, if◌then◌else◌, [], false, List, length, reverse, slice_index_or, option_to_list, IfOk, IfSome, OnOk, nat_eq};
 ghost use Rattle.std.specs.HashMap.{get};
-ghost use Rattle.hsr_number_runs.specs.Counting.{AreMarked, AreRunsOf, IsPlaced, AreSoFar, Knows, is_marked, same_block};
-ghost use Rattle.hsr_number_runs.specs.Runs.{begun, extended_by, gone_on, greater, in_runs, is_there, put_in, restart_by, restarts_by, restarts_in, top_of};
+ghost use Rattle.hsr_number_runs.specs.Counting.{AreMarked, IsPlaced, Knows, is_marked, same_block};
+ghost use Rattle.hsr_number_runs.specs.Runs.{AreRunsOf, begun, extended_by, gone_on, greater, is_there, put_in, restart_by, restarts_by, top_of};
 ghost use Rattle.hsr_number_runs.specs.declared.run.InRun.{InRun};
-ghost use Rattle.hsr_number_runs.specs.declared.run.Numbered.{Numbered};
 
 use hsr_frame::NoMemory;
 use std::alloc::Global;
 use std::collections::HashMap;
+use std::marker::Model;
 
 /// How long a node remembers a frame, in nanoseconds.
 pub const FORGET_TIME: u64 = 400_000_000;
@@ -27,19 +27,19 @@ const BLOCK: u64 = 8;
 #[derive(Clone, Copy, Debug, PartialEq, Eq)]
 pub struct Numbered {
     pub at: u64,
-    pub group: usize,
-    pub sender: usize,
+    pub group: u32,
+    pub sender: u32,
     pub copy: u32,
     pub number: u16,
 }
 
-/// A number in a run: extended, it counts on where numbers begin anew, from 65536 on.
+/// A number in a run: extended, it counts on where numbers begin anew, from 65536 on. It takes 32 octets of room.
 #[derive(Clone, Copy, Debug, PartialEq, Eq)]
 pub struct InRun {
     pub extended: u64,
     pub at: u64,
-    pub group: usize,
-    pub sender: usize,
+    pub group: u32,
+    pub sender: u32,
     pub run: u32,
     pub copy: u32,
 }
@@ -47,8 +47,8 @@ pub struct InRun {
 /// A number that began a new run of its group, behind the greatest number of the run before.
 #[derive(Clone, Copy, Debug, PartialEq, Eq)]
 pub struct Restart {
-    pub group: usize,
-    pub sender: usize,
+    pub group: u32,
+    pub sender: u32,
     pub number: u16,
     pub copy: u32,
     /// When it came.
@@ -69,7 +69,7 @@ pub struct Runs {
 #[derive(Drop)]
 struct Counting {
     /// Of each group the greatest number of its latest run.
-    tops: HashMap<usize, InRun>,
+    tops: HashMap<u32, InRun>,
     /// Of each eight extended numbers of a run whether they are there.
     there: HashMap<(u32, u64), [bool; 8]>,
     /// How many runs were begun.
@@ -193,7 +193,7 @@ impl Counting {
     }
 
     /// The greatest number of a group's latest run.
-    fn top_of(&self, group: usize) -> Option<InRun>
+    fn top_of(&self, group: u32) -> Option<InRun>
         ensures { result ≡ get nat_eq self.now.tops group }
     {
         self.tops.get(&group).copied()
@@ -278,7 +278,8 @@ impl Counting {
     }
 }
 
-/// Numbers that are put into runs, one after the other, in the order of time. No list of the numbers themselves is needed.
+/// Numbers that are put into runs, one after the other, in the order of time. No list of the numbers themselves is kept: each can be told
+/// by its place in its run.
 #[derive(Drop)]
 pub struct RunsSoFar {
     counting: Counting,
@@ -286,10 +287,25 @@ pub struct RunsSoFar {
     restarts: Vec<Restart>,
 }
 
+impl Model for RunsSoFar {
+    ghost use Rattle.std.specs.Prelude.{List, reverse};
+    ghost use Rattle.hsr_number_runs.specs.declared.run.Numbered.{Numbered};
+
+    ghost Value = { List Numbered };
+
+    ghost use Rattle.hsr_number_runs.specs.Counting.{AreSoFar};
+    ghost use Rattle.hsr_number_runs.specs.Runs.{numbers_of};
+
+    ghost view = { λ s. numbers_of s.in_runs.items };
+
+    ghost invariant = { λ s. AreSoFar s.counting s.in_runs.items s.restarts.items (reverse (numbers_of s.in_runs.items)) };
+}
+
 impl RunsSoFar {
     /// No number was put. As much room is taken as so many numbers need: a list that grows by doubling takes up to twice that.
+    /// `NoMemory` where room is refused.
     pub fn with_capacity(alloc: Global, many: usize) -> Result<RunsSoFar, NoMemory>
-        ensures { IfOk result (λ so_far. AreSoFar so_far []) }
+        ensures { IfOk result (λ so_far. so_far ≡ []) }
     {
         Ok(RunsSoFar {
             counting: Counting::new(alloc),
@@ -298,25 +314,37 @@ impl RunsSoFar {
         })
     }
 
-    /// Puts the next number into its run. `NoMemory` where room is refused.
-    pub fn put(&mut self, alloc: Global, n: Numbered) -> Result<(), NoMemory>
-        requires { (past : List Numbered) × AreSoFar self.old past × (length past < 2 ^ 31) }
-        ensures { OnOk result ((past : List Numbered) → length past < 2 ^ 31 → AreSoFar self.old past → AreSoFar self.new (n ∷ past)) }
+    /// With the next number in its run. `NoMemory` where room is refused.
+    pub fn put(self, alloc: Global, n: Numbered) -> Result<RunsSoFar, NoMemory>
+        requires { length self < 2 ^ 31 }
+        ensures { IfOk result (λ so_far. so_far ≡ self ++ n ∷ []) }
     {
-        let placed = self.counting.place(n);
-        self.counting.put(alloc, placed.in_run)?;
-        self.in_runs.push(placed.in_run)?;
-        put_restart(&mut self.restarts, placed.restart)?;
-        Ok(())
+        let RunsSoFar {
+            counting,
+            in_runs,
+            restarts,
+        } = self;
+        let (mut counting, mut in_runs, mut restarts) = (counting, in_runs, restarts);
+        let placed = counting.place(n);
+        counting.put(alloc, placed.in_run)?;
+        in_runs.push(placed.in_run)?;
+        put_restart(&mut restarts, placed.restart)?;
+        Ok(RunsSoFar {
+            counting,
+            in_runs,
+            restarts,
+        })
     }
 
     /// All numbers in their runs, and the restarts among them.
     pub fn runs(self) -> Runs
-        ensures { (numbers : List Numbered) → AreSoFar self (reverse numbers) → AreRunsOf numbers result }
+        ensures { AreRunsOf self result }
     {
-        Runs {
-            in_runs: self.in_runs,
-            restarts: self.restarts,
-        }
+        let RunsSoFar {
+            counting: _,
+            in_runs,
+            restarts,
+        } = self;
+        Runs { in_runs, restarts }
     }
 }

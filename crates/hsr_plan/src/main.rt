@@ -1,5 +1,5 @@
 //! The planner's program: a plan on standard input, and the scenario that it means on standard output; or a scenario to be
-//! checked, the lines of a sweep, or a verdict in any order. `main` hands its arguments, its standard streams and its memory over to
+//! checked, the report of its run, the lines of a sweep, or a verdict in any order. `main` hands its arguments, its standard streams, files and memory over to
 //! `plan`.
 //!
 //! Its one module, `planning`, has the whole program over arguments, a reader and two writers.
@@ -8,14 +8,18 @@
 mod planning;
 
 pub use crate::planning::plan;
+use hsr_files::HostDisk;
 use hsr_text::arguments;
+use std::fs::Files;
 use std::io::{BufWriter, ErrorKind, IsTerminal, Write};
+use std::marker::Sync;
 use std::process::ExitCode;
 use std::rt::Env;
+use std::thread::Threads;
 use std::{env, io};
 
 /// Does what the arguments ask for over the standard streams, where standard error is a terminal or not.
-fn run<H: AllocGlobal + Env + Input + Print, E: Write>(
+fn run<H: AllocGlobal + Env + Files + Input + Print + Threads + Sync, E: Write>(
     rt: &H,
     is_terminal: bool,
     errors: &mut E,
@@ -27,12 +31,15 @@ fn run<H: AllocGlobal + Env + Input + Print, E: Write>(
     };
     let mut reader = rt.reader();
     let mut writer = BufWriter::new(rt.alloc(), io::writer(rt))?;
+    let mut disk = HostDisk { rt };
     let code = plan(
+        rt,
         rt.alloc(),
         words.as_slice(),
         is_terminal,
         &mut reader,
         &mut writer,
+        &mut disk,
         errors,
     )?;
     Ok(ExitCode::from(code))

@@ -10,7 +10,7 @@ use Rattle.hsr_certify_text.specs.Coarse.{coarse}
 use Rattle.hsr_plan_text.specs.Plan.{Plan}
 use Rattle.hsr_plan_text.specs.declared.fault.PlanFault.{PlanFault}
 use Rattle.hsr_plan_text.specs.declared.plan.Moves.{Moves}
-use Rattle.hsr_plan_text.specs.declared.plan.Moves.TheVariants.{EachSendDrains, EachMomentDrains, Hop}
+use Rattle.hsr_plan_text.specs.declared.plan.Moves.TheVariants.{EachSendDrains, EachMomentDrains, Timed}
 use Rattle.hsr_plan_schedule.specs.Meaning.{IfListed, Listed, Meaning, Orders, Tells, listed, setting}
 use Rattle.hsr_plan_schedule.specs.Orders.{told_of}
 use Rattle.hsr_plan_schedule.specs.declared.occasion.Occasion.{Occasion}
@@ -40,9 +40,9 @@ told_sends plan all orders streams (os, in_order, first, second) =
 moved_sends : (P : Origin → Type 0) (capacity : ℕ) (moves : Moves) (told m : Meaning) → Moved capacity moves told m → OfSends P 0 told.sends told.orders → OfSends P 0 m.sends m.orders
 moved_sends P capacity EachSendDrains told m same sends = let Q : Meaning → Type 0 = λ v. OfSends P 0 v.sends v.orders in subst Q (sym same) sends
 moved_sends P capacity EachMomentDrains told m same sends = let Q : Meaning → Type 0 = λ v. OfSends P 0 v.sends v.orders in subst Q (sym same) sends
-moved_sends P capacity (Hop us) told m (orders, by_hops, same) sends =
+moved_sends P capacity (Timed transfer) told m (orders, at_transfer, same) sends =
     let Q : Meaning → Type 0 = λ v. OfSends P 0 v.sends v.orders in
-    subst Q (sym same) (woven_sends P capacity 0 told.topology.links told.sends told.orders _ _ orders _ by_hops.run.tells sends)
+    subst Q (sym same) (woven_sends P capacity 0 told.topology.links told.sends told.orders _ _ orders _ at_transfer.run.tells sends)
 
 -- a drain behind all sends nothing
 drained_sends : (P : Origin → Type 0) (at : ℕ) (streams : List ℕ) (orders : List Order) → OfSends P at streams orders → OfSends P at streams (orders ++ Drain ∷ [])

@@ -11,7 +11,7 @@ use Rattle.hsr_topology.specs.declared.end.End.{End}
 use Rattle.hsr_world_steps.specs.declared.step.Step.TheVariants.{Supervise}
 use Rattle.hsr_plan_text.specs.Plan.{Stream}
 use Rattle.hsr_plan_text.specs.declared.plan.Moves.{Moves}
-use Rattle.hsr_plan_text.specs.declared.plan.Moves.TheVariants.{EachSendDrains, EachMomentDrains, Hop}
+use Rattle.hsr_plan_text.specs.declared.plan.Moves.TheVariants.{EachSendDrains, EachMomentDrains, Timed}
 use Rattle.hsr_plan_schedule.specs.Hearing.{Heard, heard_on, interlink_to, knows, macs_behind}
 use Rattle.hsr_plan_schedule.specs.Orders.{Told, change, changed, changes, clocked, comes, downs, drain, drained, flag, from_stream, happens, hear, hear_by, hear_on, is_to_speak, live, named_send, send_if, sending, set, speak, speak_of, start, tell_all, tell_occasion, told_of, type_of}
 use Rattle.hsr_plan_schedule.specs.Setting.{Setting}
@@ -68,7 +68,7 @@ module _ (P : Origin → Type 0) where
   led_sending : (at : ℕ) (moves : Moves) (order : Order) (told : Told) → Led at (record told { orders = told.orders ++ order ∷ [] }) → Led at (sending moves order told)
   led_sending at EachSendDrains order told (led, now) = (led_drain P at told.sends (told.orders ++ order ∷ []) led, now)
   led_sending at EachMomentDrains order told led = led
-  led_sending at (Hop us) order told led = led
+  led_sending at (Timed transfer) order told led = led
 
   heard_if : (at : ℕ) (is : Bool) (heard : Heard) (told : Told) → Led at told → Led at (if is then record told { heard = heard } else told)
   heard_if at true heard told led = led

@@ -84,6 +84,6 @@ pub record IsTold (capacity : ℕ) (question : Question) (text : List ℕ) (plan
   pub means : MeansMoved capacity plan meant
   pub told : IsToldOf capacity question text meant words end
 
--- there is none: the plan means nothing, or its copies, which move by hops, can't
+-- there is none: the plan means nothing, or its copies, which move by hops or wires, can't
 abbrev pub IsUncertified : ℕ → Plan → Type 0
 IsUncertified capacity plan = MeansNothing plan ⊎ IsImmovable capacity plan

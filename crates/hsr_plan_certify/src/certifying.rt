@@ -61,7 +61,7 @@ fn answer<W: Write, E: Write>(
 
 /// Reads a plan, and writes one line, the verdict on it whatever the order in which its copies move, in a network with tables of the
 /// size `table`: that all its sends are certified, or the first doubt. The question may be of orders alone in which copies live for less than
-/// so many microseconds. Certified is what happens in the plan: its moves of copies, where they are by hops, are left out, and a drain stands
+/// so many microseconds. Certified is what happens in the plan: its moves of copies, where they are by hops or wires, are left out, and a drain stands
 /// behind all. A doubt names the send by its node, its moment and its stream, or the link or the node, and the line of the plan where that
 /// stands. Behind a certificate stand lines of what faults cut off, if the question is of these too. Where there is no verdict, nothing is
 /// written but one line on `errors`, as by `plan_run`. The error of `errors`, where that line can't be written there.

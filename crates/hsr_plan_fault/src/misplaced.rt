@@ -10,7 +10,7 @@ pub(crate) struct Misplaced {
 }
 
 /// The keys that stand at the top of a plan, and are no tables.
-const TOP_KEYS: [Key; 7] = [
+const TOP_KEYS: [Key; 10] = [
     Key::Title,
     Key::Capacity,
     Key::Life,
@@ -18,6 +18,9 @@ const TOP_KEYS: [Key; 7] = [
     Key::Epoch,
     Key::Moves,
     Key::Hop,
+    Key::Rate,
+    Key::Residence,
+    Key::Switching,
 ];
 
 /// The key of the top that a word is.

@@ -44,6 +44,8 @@ fn idle(key: Key) -> &'static str {
     match key {
         Key::Hop =>
             "this changes nothing: copies move by hops where moves is \"hops\", and only there",
+        Key::Rate | Key::Residence | Key::Switching =>
+            "this changes nothing: copies move by wires where moves is \"wire\", and only there",
         Key::On => "this changes nothing: the node isn't off then; it goes off by an earlier event",
         Key::Appid | Key::ControlBlock | Key::Id | Key::DataSet =>
             "this changes nothing: only streams of type goose and sv have appid, control_block, id and data_set",
@@ -139,6 +141,12 @@ fn put_name(line: &mut Vec<u8>, refusal: &Refusal) -> Result<(), NoMemory> {
             "",
             word,
             " sends to itself: another sender or another target",
+        ),
+        Refusal::NotDue(word) => put_word(
+            line,
+            "frames of this stream aren't due at ",
+            word,
+            ": for names who is to have them, of a group anyone but the only sender",
         ),
         _ => put_nobody(line, refusal),
     }

@@ -70,7 +70,7 @@ fn name_of(source: Source<'_>, keys: &[Key], name: &[u8], start: usize) -> Optio
 fn unknown_name(source: Source<'_>, spot: Spot, start: usize, name: &[u8]) -> Option<usize> {
     match spot {
         Spot::Top => unknown_node(source, name),
-        Spot::Stream(_) => name_of(source, &[Key::To, Key::From], name, start),
+        Spot::Stream(_) => name_of(source, &[Key::To, Key::From, Key::For], name, start),
         Spot::Event(_) => name_of(source, &EVENT_KEYS, name, start),
     }
 }
@@ -91,6 +91,7 @@ fn refused_at(source: Source<'_>, spot: Spot, start: usize, refusal: &Refusal) -
             unknown_name(source, spot, start, word.as_bytes()),
         Refusal::AddressTaken(word) => member_at(source, b"address", word.as_bytes()),
         Refusal::ToItself(word) => name_of(source, &[Key::From], word.as_bytes(), start),
+        Refusal::NotDue(word) => name_of(source, &[Key::For], word.as_bytes(), start),
         Refusal::TooMany(Key::Ring) => rings_at(source),
         Refusal::TooSmall(_) => key_of(source, spot, start, b"size"),
         Refusal::TooLong(_) => key_of(source, spot, start, b"asdus"),
@@ -154,10 +155,10 @@ fn offset_of(source: Source<'_>, fault: &PlanFault) -> usize {
 fn keys_at(spot: Spot) -> &'static str {
     match spot {
         Spot::Top => {
-            "a plan has title, ring or rings, redbox, address, mode, capacity, life_ms, until_us, epoch, moves, hop_us, stream and event"
+            "a plan has title, ring or rings, redbox, address, mode, capacity, life_ms, until_us, epoch, moves, hop_us, rate_mbps, residence_us, switching, stream and event"
         }
         Spot::Stream(_) => {
-            "a stream has from, to, type, size, vlan, priority, appid, control_block, id, data_set, start_us, every_us, grow, most_us, smp_rate, asdus, count and until_us"
+            "a stream has from, to, for, type, size, vlan, priority, appid, control_block, id, data_set, start_us, every_us, grow, most_us, smp_rate, asdus, count and until_us"
         }
         Spot::Event(_) => "an event has at_us and one of cut, mend, off and on",
     }
@@ -176,12 +177,15 @@ fn values_of(key: Key) -> &'static str {
         Key::Life => "0 to 1073741824 milliseconds",
         Key::Until | Key::At => "0 to 1099511627776 microseconds",
         Key::Moves => {
-            "\"each send drains\", \"each moment drains\", or \"hops\" with hop_us from 1 to 1000000 microseconds"
+            "\"each send drains\", \"each moment drains\", \"hops\" with hop_us from 1 to 1000000 microseconds, or \"wire\""
         }
         Key::Hop => "1 to 1000000 microseconds",
+        Key::Rate => "1 to 100000 Mbit/s",
+        Key::Residence => "0 to 1000000 microseconds",
+        Key::Switching => "\"store\" or \"cut\"",
         Key::Stream | Key::Event =>
             "tables, each below a header of its own in two brackets, as [[stream]] or [[event]]",
-        Key::From => "a name, or a list of 1 to 4096 names",
+        Key::From | Key::For => "a name, or a list of 1 to 4096 names",
         Key::To => "a name, or an address as 01-0C-CD-01-00-01",
         Key::Kind => "\"goose\", \"sv\" or a number to 65535, but neither 0x892F nor 0x8100",
         Key::Size => "0 to 1500 octets, but not 0 of goose and sv",

@@ -2,5 +2,4 @@ mod Begun
 mod Listing
 mod Next
 mod OnWay
-mod Since
 mod Told

@@ -1,22 +1,22 @@
--- A copy that has come to its end is taken next.
-use Rattle.std.proofs.Common.{◌≡◌, ℕ, ◌-◌, ◌≤◌, ◌||◌, List, Option, Some, Bool, true, false, refl, subst, sym}
+-- A copy that comes to its end now is taken next.
+use Rattle.std.proofs.Common.{◌≡◌, ℕ, ◌||◌, List, Option, Some, Bool, true, false, not, ap, refl, subst, sym}
 use Rattle.std.proofs.lemmas.Bool.{eq-eqb}
 use Rattle.hsr_link.specs.Rows.{is_same_dir}
 use Rattle.hsr_link.specs.declared.row.Dir.{Dir}
 use Rattle.hsr_link.specs.declared.row.Dir.TheVariants.{Forth, Back}
 use Rattle.hsr_scenario.specs.declared.steps.Order.{Order}
+use Rattle.hsr_topology.specs.declared.end.End.{End}
 use Rattle.hsr_world_steps.specs.declared.step.Step.TheVariants.{Put, Take}
 use Rattle.hsr_world_steps.specs.declared.step.Step as steps
-use Rattle.hsr_plan_schedule.specs.Meaning.{Meaning}
 use Rattle.hsr_world_laws.specs.World.{World}
-use Rattle.hsr_plan_hops.specs.Beginning.{Begins, IsNext, IsSettled, Stage, next_copy}
-use Rattle.hsr_plan_hops.specs.Flights.{elapsed, is_at_end}
+use Rattle.hsr_plan_text.specs.declared.plan.Transfer.{Transfer}
+use Rattle.hsr_plan_hops.specs.Beginning.{IsNext, IsSettled, Stage, next_copy}
+use Rattle.hsr_plan_hops.specs.Flights.{is_at_end}
 use Rattle.hsr_plan_hops.specs.Telling.{PutsFirst}
 use Rattle.hsr_plan_hops.specs.Turns.{is_free, may_stand}
-use Rattle.hsr_plan_hops.specs.declared.flights.Flight.{Flight}
+use Rattle.hsr_plan_hops.specs.declared.flights.Arrival.{Arrival}
 use Rattle.hsr_plan_hops.specs.declared.turns.Due.{Due}
 use Rattle.hsr_plan_hops.specs.declared.turns.Due.TheVariants.{Nothing, Judgement, Puts}
-use Rattle.hsr_plan_hops.proofs.Since.{IsInTime, in_time, just_over}
 
 -- ---- where nothing is left to judge or to put
 
@@ -41,23 +41,22 @@ same_dir : (dir : Dir) → is_same_dir dir dir ≡ true
 same_dir Forth = refl
 same_dir Back = refl
 
-at_end : (us now : ℕ) (f : Flight) → now - f.moment ≡ us → is_at_end us now f.link f.dir (Some f) ≡ true
-at_end us now f just = rw (eq-eqb f.link f.link refl, same_dir f.dir, eq-eqb (now - f.moment) us just) refl
+at_end : (now : ℕ) (a : Arrival) → a.at ≡ now → is_at_end now a.link a.dir (Some a) ≡ true
+at_end now a just = rw (eq-eqb a.link a.link refl, same_dir a.dir, eq-eqb a.at now just) refl
 
-pub takes : (capacity us : ℕ) (s : Stage) (f : Flight) → 1 ≤ us → IsInTime us s → IsSettled capacity s.world s.due → next_copy s ≡ Some f → us ≤ elapsed s.moment f → IsNext capacity us s (Take f.link f.dir) s.told
-takes capacity us s f time are settled next over =
-    let ends = just_over us s f time are next over in
-    record {
-      does = refl;
-      stands = stands_free capacity s.world s.due (Take f.link f.dir) refl settled;
-      puts_first = puts_first capacity s.world s.due (Take f.link f.dir) settled;
-      first = ends.none;
-      on_time = let P : Option Flight → Type 0 = λ o. is_at_end us s.moment f.link f.dir o ≡ true in subst P (sym next) (at_end us s.moment f ends.just);
-      called_for = tt;
-    }
+takes : (capacity : ℕ) (transfer : Transfer) (links : List (List End)) (s : Stage) (a : Arrival) → IsSettled capacity s.world s.due → next_copy transfer links s ≡ Some a → a.at ≡ s.moment
+    → s.begun ≡ false → IsNext capacity transfer links s (Take a.link a.dir) s.told
+takes capacity transfer links s a settled next just first = record {
+  does = refl;
+  stands = stands_free capacity s.world s.due (Take a.link a.dir) refl settled;
+  puts_first = puts_first capacity s.world s.due (Take a.link a.dir) settled;
+  first = ap not first;
+  on_time = let P : Option Arrival → Type 0 = λ o. is_at_end s.moment a.link a.dir o ≡ true in subst P (sym next) (at_end s.moment a just);
+  called_for = tt;
+}
 
-pub takes_at : (capacity us : ℕ) (told : Meaning) (orders : List Order) (s : Stage) (f : Flight) (more : List Order) → 1 ≤ us → Begins capacity us told orders s
-    → IsSettled capacity s.world s.due → next_copy s ≡ Some f → us ≤ elapsed s.moment f → more ≡ s.told → IsNext capacity us s (Take f.link f.dir) more
-takes_at capacity us told orders s f more time begins settled next over same =
-    let P : List Order → Type 0 = IsNext capacity us s (Take f.link f.dir) in
-    subst P (sym same) (takes capacity us s f time (in_time capacity us told time orders s begins) settled next over)
+pub takes_at : (capacity : ℕ) (transfer : Transfer) (links : List (List End)) (s : Stage) (a : Arrival) (more : List Order) → IsSettled capacity s.world s.due
+    → next_copy transfer links s ≡ Some a → a.at ≡ s.moment → s.begun ≡ false → more ≡ s.told → IsNext capacity transfer links s (Take a.link a.dir) more
+takes_at capacity transfer links s a more settled next just first same =
+    let P : List Order → Type 0 = IsNext capacity transfer links s (Take a.link a.dir) in
+    subst P (sym same) (takes capacity transfer links s a settled next just first)

@@ -1,9 +1,9 @@
 -- Copies that are on their way, without those at their front that don't wait any more.
-use Rattle.std.proofs.Common.{◌≡◌, ◌∙◌, ℕ, zero, suc, ◌+◌, ◌∷◌, [], List, Some, length, true, false, cond, slice_get, drop, ap, refl, sym}
+use Rattle.std.proofs.Common.{◌≡◌, ◌∙◌, ℕ, zero, suc, ◌+◌, ◌∷◌, ◌++◌, [], List, replicate, Some, length, true, false, cond, slice_get, drop, ap, refl, sym}
 use Rattle.std.proofs.Math.Seq.{drop-length}
-use Rattle.std.proofs.lemmas.List.{drop-drop}
+use Rattle.std.proofs.lemmas.List.{drop-drop, replicate_more}
 use Rattle.hsr_world_laws.specs.World.{World}
-use Rattle.hsr_plan_hops.specs.Flights.{is_on_way, on_way}
+use Rattle.hsr_plan_hops.specs.Flights.{Channel, is_on_way, no_channel, on_way}
 use Rattle.hsr_plan_hops.specs.declared.flights.Flight.{Flight}
 
 pub first_waits : (w : World) (flights : List Flight) (f : Flight) → slice_get flights 0 ≡ Some f → is_on_way w f ≡ true → on_way w flights ≡ flights
@@ -36,3 +36,8 @@ gone_at w flights i f is gone h = ap (on_way w) (sym (drop-drop 1 i flights)) �
 
 pub all_gone : (w : World) (flights : List Flight) → on_way w (drop (length flights) flights) ≡ on_way w flights → drop (length flights) flights ≡ on_way w flights
 all_gone w flights h = drop-length flights ∙ (ap (on_way w) (sym (drop-length flights)) ∙ h)
+
+-- ---- channels
+
+pub one_more : (list more : List Channel) (n : ℕ) → list ≡ replicate n no_channel → more ≡ list ++ no_channel ∷ [] → more ≡ replicate (n + 1) no_channel
+one_more list more n is pushed = pushed ∙ (ap (λ l. l ++ no_channel ∷ []) is ∙ replicate_more n no_channel)

@@ -8,11 +8,12 @@ use Rattle.hsr_world_steps.specs.declared.step.Step.TheVariants.{Clock, Send, Su
 use Rattle.hsr_world_steps.specs.declared.step.Step as steps
 use Rattle.hsr_ring.specs.Playing.{Plays}
 use Rattle.hsr_plan_schedule.specs.Meaning.{Meaning}
+use Rattle.hsr_plan_text.specs.declared.plan.Transfer.{Transfer}
 use Rattle.hsr_world_laws.specs.Lawful.{finished_of}
 use Rattle.hsr_world_laws.specs.World.{World, tried}
-use Rattle.hsr_plan_hops.specs.Beginning.{Begins, DoesAll, IsNext, Stage, at_first, done, left_out}
+use Rattle.hsr_plan_hops.specs.Beginning.{Begins, DoesAll, IsNext, Stage, at_first, done, left_out, seen_at}
 use Rattle.hsr_plan_hops.specs.Flights.{AreOnTime}
-use Rattle.hsr_plan_hops.specs.Moving.{MovesByHops, world_of}
+use Rattle.hsr_plan_hops.specs.Moving.{MovesAtPace, first_sight, world_of}
 use Rattle.hsr_plan_hops.specs.Telling.{Does, IsDone, IsUnknownTo, LeavesOut, Tells}
 use Rattle.hsr_plan_hops.specs.Turns.{are_in_turn, due_behind}
 use Rattle.hsr_plan_hops.specs.Weaving.{EndsWell, Woven}
@@ -27,9 +28,9 @@ leaves_none capacity w [] = refl
 leaves_none capacity w (order ∷ told) = inl refl
 
 -- a step that comes next, and is done, does what is told
-does_next : (capacity us : ℕ) (s : Stage) (step : steps.Step) (more : List Order) (after : World) → IsNext capacity us s step more → tried capacity s.world step ≡ Ok after
+does_next : (capacity : ℕ) (transfer : Transfer) (links : List (List End)) (s : Stage) (step : steps.Step) (more : List Order) (after : World) → IsNext capacity transfer links s step more → tried capacity s.world step ≡ Ok after
     → IsDone capacity s.told s.due s.world step more after
-does_next capacity us s step more after next is = record {
+does_next capacity transfer links s step more after next is = record {
   left = s.told;
   left_out = leaves_none capacity s.world s.told;
   does = next.does;
@@ -61,29 +62,29 @@ tells_first capacity links step more due w (Step next ∷ rest) after unknown (t
 
 -- ---- all
 
-module _ (capacity us : ℕ) (told : Meaning) where
+module _ (capacity : ℕ) (transfer : Transfer) (told : Meaning) where
   -- what does the rest, does all behind a beginning
-  tells_on : (orders : List Order) (s : Stage) → Begins capacity us told orders s → (rest : List Order) (after : World)
+  tells_on : (orders : List Order) (s : Stage) → Begins capacity transfer told orders s → (rest : List Order) (after : World)
       → Tells capacity told.topology.links s.told s.due s.world rest after → Tells capacity told.topology.links told.orders Nothing (world_of told) (orders ++ rest) after
   tells_on orders s at_first rest after h = h
   tells_on orders s (done first t step more between begins next is) rest after h =
       let P : List Order → Type 0 = λ os. Tells capacity told.topology.links told.orders Nothing (world_of told) os after in
       subst P (sym (append_assoc first (Step step ∷ []) rest))
-      (tells_on first t begins (Step step ∷ rest) after (more, between, does_next capacity us t step more between next is, h))
+      (tells_on first t begins (Step step ∷ rest) after (more, between, does_next capacity transfer told.topology.links t step more between next is, h))
   tells_on orders s (left_out first t step more begins next unknown) rest after h =
       let P : List Order → Type 0 = λ ts. Tells capacity told.topology.links ts t.due t.world rest after in
       tells_on first t begins rest after
       (subst P (sym (unknown_first capacity t.world step t.told more next.does unknown)) (tells_first capacity told.topology.links step more t.due t.world rest after unknown h))
 
-  on_time_on : (orders : List Order) (s : Stage) → Begins capacity us told orders s → (rest : List Order) → AreOnTime capacity us told.topology.links s.moment s.flights s.world rest
-      → AreOnTime capacity us told.topology.links 0 [] (world_of told) (orders ++ rest)
+  on_time_on : (orders : List Order) (s : Stage) → Begins capacity transfer told orders s → (rest : List Order) → AreOnTime capacity transfer s.turn (seen_at told.topology.links s) rest
+      → AreOnTime capacity transfer 0 (first_sight told) (orders ++ rest)
   on_time_on orders s at_first rest h = h
   on_time_on orders s (done first t step more between begins next is) rest h =
-      let P : List Order → Type 0 = AreOnTime capacity us told.topology.links 0 [] (world_of told) in
+      let P : List Order → Type 0 = AreOnTime capacity transfer 0 (first_sight told) in
       subst P (sym (append_assoc first (Step step ∷ []) rest)) (on_time_on first t begins (Step step ∷ rest) (between, is, next.on_time, h))
   on_time_on orders s (left_out first t step more begins next unknown) rest h = on_time_on first t begins rest h
 
-  in_turn_on : (orders : List Order) (s : Stage) → Begins capacity us told orders s → (rest : List Order) → are_in_turn told.topology.links s.due s.moment s.begun rest ≡ true
+  in_turn_on : (orders : List Order) (s : Stage) → Begins capacity transfer told orders s → (rest : List Order) → are_in_turn told.topology.links s.due s.moment s.begun rest ≡ true
       → are_in_turn told.topology.links Nothing 0 false (orders ++ rest) ≡ true
   in_turn_on orders s at_first rest h = h
   in_turn_on orders s (done first t step more between begins next is) rest h =
@@ -101,15 +102,15 @@ plays capacity links told due w (Drain ∷ orders) after h = absurd h
 plays capacity links told due w (Step step ∷ orders) after (more, between, is, rest) =
     (between, is.done, plays capacity links more (due_behind links step) between orders after rest)
 
-pub by_hops : (capacity us : ℕ) (told : Meaning) (orders : List Order) (s : Stage) → DoesAll capacity us told orders s → EndsWell capacity us s.world → MovesByHops capacity us told orders
-by_hops capacity us told orders s all ends =
+pub at_transfer : (capacity : ℕ) (transfer : Transfer) (told : Meaning) (orders : List Order) (s : Stage) → DoesAll capacity transfer told orders s → EndsWell capacity transfer s.world → MovesAtPace capacity transfer told orders
+at_transfer capacity transfer told orders s all ends =
     let same : orders ++ [] ≡ orders = append-nil orders in
     let T : List Order → Type 0 = λ os. Tells capacity told.topology.links told.orders Nothing (world_of told) os s.world in
-    let A : List Order → Type 0 = AreOnTime capacity us told.topology.links 0 [] (world_of told) in
+    let A : List Order → Type 0 = AreOnTime capacity transfer 0 (first_sight told) in
     let N : List Order → Type 0 = λ ts. LeavesOut capacity s.world ts [] in
-    let tells : T orders = subst T same (tells_on capacity us told orders s all.begins [] s.world (subst N (sym all.all) refl, refl)) in
+    let tells : T orders = subst T same (tells_on capacity transfer told orders s all.begins [] s.world (subst N (sym all.all) refl, refl)) in
     record {
-      in_turn = ap (are_in_turn told.topology.links Nothing 0 false) (sym same) ∙ in_turn_on capacity us told orders s all.begins [] refl;
+      in_turn = ap (are_in_turn told.topology.links Nothing 0 false) (sym same) ∙ in_turn_on capacity transfer told orders s all.begins [] refl;
       run = record {
         run = finished_of capacity s.world;
         finished = record {
@@ -119,14 +120,14 @@ by_hops capacity us told orders s all ends =
           is = refl;
         };
         tells = tells;
-        on_time = subst A same (on_time_on capacity us told orders s all.begins [] tt);
+        on_time = subst A same (on_time_on capacity transfer told orders s all.begins [] tt);
         in_time = ends.in_time;
       };
     }
 
-pub by_hops_at : (capacity us : ℕ) (told : Meaning) (v : Woven) (s : Stage) (orders : List Order) (w : World) → made s orders ≡ v → s.world ≡ w → DoesAll capacity us told v.orders v.stage
-    → EndsWell capacity us w → MovesByHops capacity us told orders
-by_hops_at capacity us told v s orders w is_made is_world all ends =
-    let P : Woven → Type 0 = λ x. DoesAll capacity us told x.orders x.stage in
-    let W : World → Type 0 = EndsWell capacity us in
-    by_hops capacity us told orders s (subst P (sym is_made) all) (subst W (sym is_world) ends)
+pub at_pace_at : (capacity : ℕ) (transfer : Transfer) (told : Meaning) (v : Woven) (s : Stage) (orders : List Order) (w : World) → made s orders ≡ v → s.world ≡ w → DoesAll capacity transfer told v.orders v.stage
+    → EndsWell capacity transfer w → MovesAtPace capacity transfer told orders
+at_pace_at capacity transfer told v s orders w is_made is_world all ends =
+    let P : Woven → Type 0 = λ x. DoesAll capacity transfer told x.orders x.stage in
+    let W : World → Type 0 = EndsWell capacity transfer in
+    at_transfer capacity transfer told orders s (subst P (sym is_made) all) (subst W (sym is_world) ends)

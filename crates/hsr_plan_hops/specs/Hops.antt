@@ -30,5 +30,5 @@ abbrev pub is_in_time : ℕ → Run → Hop → Bool
 is_in_time us run hop = is_in_time_if us run hop hop.judged
 
 -- each copy of a run that wasn't lost was judged `us` microseconds after it was passed
-abbrev pub are_in_time : ℕ → Run → Bool
-are_in_time us run = list_all (is_in_time us run) (hops run)
+abbrev pub are_by_hops : ℕ → Run → Bool
+are_by_hops us run = list_all (is_in_time us run) (hops run)

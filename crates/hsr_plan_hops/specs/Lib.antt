@@ -2,6 +2,8 @@ pub mod Turns
 pub mod Telling
 pub mod Flights
 pub mod Hops
+pub mod Wires
+pub mod Timing
 pub mod Moving
 pub mod Beginning
 pub mod Refusing

@@ -1,10 +1,11 @@
 -- Why a plan means nothing, once its copies move.
 --     IsEndless      too many orders do what is told
 --     IsStuck        what comes next at a stage can't be done
---     IsUnmovable    copies can't be moved by hops
+--     IsUnmovable    copies can't be moved at a transfer
 --     IsUnmoved      a plan means nothing, once its copies move
 --     IsImmovable    so it is though it means something as it is told
-use Rattle.std.specs.Prelude.{ℕ, ◌+◌, ◌^◌, ◌≡◌, ◌<◌, ◌≤◌, ◌⊎◌, nat_le, nat_lt, Bool, true, false, List, [], ◌∷◌, length, Some, None, Err, ⊤}
+use Rattle.std.specs.Prelude.{ℕ, ◌^◌, ◌≡◌, ◌<◌, ◌⊎◌, nat_le, nat_lt, Bool, true, false, List, [], ◌∷◌, length, Some, None, Err, ⊤}
+use Rattle.hsr_topology.specs.declared.end.End.{End}
 use Rattle.hsr_scenario.specs.declared.steps.Order.{Order}
 use Rattle.hsr_scenario.specs.declared.steps.Order.TheVariants.{Step, Drain}
 use Rattle.hsr_world_steps.specs.declared.step.Step.TheVariants.{Clock, Put, Take, Judge}
@@ -12,17 +13,19 @@ use Rattle.hsr_world_steps.specs.declared.step.Step as steps
 use Rattle.hsr_world_steps.specs.declared.step.WorldFault.{WorldFault}
 use Rattle.hsr_plan_text.specs.Fallible.{FailsAt}
 use Rattle.hsr_plan_text.specs.Plan.{Plan}
+use Rattle.hsr_plan_text.specs.declared.plan.Transfer.{Transfer}
+use Rattle.hsr_plan_text.specs.declared.plan.Transfer.TheVariants as transfer
 use Rattle.hsr_plan_text.specs.declared.plan.Moves.{Moves}
-use Rattle.hsr_plan_text.specs.declared.plan.Moves.TheVariants.{EachSendDrains, EachMomentDrains, Hop}
+use Rattle.hsr_plan_text.specs.declared.plan.Moves.TheVariants.{EachSendDrains, EachMomentDrains, Timed}
 use Rattle.hsr_plan_schedule.specs.Meaning.{Meaning, Means, listed}
 use Rattle.hsr_world_laws.specs.Lawful.{IsEnded, finished_of}
 use Rattle.hsr_world_laws.specs.World.{tried}
 use Rattle.hsr_plan_hops.specs.Beginning.{Begins, DoesAll, IsNext, Stage, next_copy}
-use Rattle.hsr_plan_hops.specs.Flights.{elapsed}
-use Rattle.hsr_plan_hops.specs.Hops.{are_in_time}
+use Rattle.hsr_plan_hops.specs.Flights.{is_to_come}
+use Rattle.hsr_plan_hops.specs.Timing.{are_in_time}
 use Rattle.hsr_plan_hops.specs.Telling.{IsUnknownTo}
 use Rattle.hsr_plan_hops.specs.Turns.{is_put}
-use Rattle.hsr_plan_hops.specs.declared.flights.Flight.{Flight}
+use Rattle.hsr_plan_hops.specs.declared.flights.Arrival.{Arrival}
 use Rattle.hsr_plan_hops.specs.declared.turns.Due.TheVariants.{Judgement}
 use Rattle.hsr_plan_hops.specs.declared.unmoved.Unmoved.{Unmoved}
 use Rattle.hsr_plan_hops.specs.declared.unmoved.Unmoved.TheVariants as unmoved
@@ -34,20 +37,20 @@ abbrev pub order_limit : ℕ
 order_limit = 2 ^ 20
 
 -- more orders than that do what is told, up to some stage
-pub record IsEndless (capacity us : ℕ) (told : Meaning) : Type 0 where
+pub record IsEndless (capacity : ℕ) (transfer : Transfer) (told : Meaning) : Type 0 where
   pub orders : List Order
   pub stage : Stage
-  pub begins : Begins capacity us told orders stage
+  pub begins : Begins capacity transfer told orders stage
   pub over : order_limit < length orders
 
 -- ---- it gets stuck
 
 -- a step comes next that the world refuses: no put, and no supervision that is left out
-pub record IsRefused (capacity us : ℕ) (s : Stage) : Type 0 where
+pub record IsRefused (capacity : ℕ) (transfer : Transfer) (links : List (List End)) (s : Stage) : Type 0 where
   pub step : steps.Step
   pub more : List Order
   pub fault : WorldFault
-  pub next : IsNext capacity us s step more
+  pub next : IsNext capacity transfer links s step more
   pub no_put : is_put step ≡ false
   pub refused : tried capacity s.world step ≡ Err fault
   pub known : ¬ IsUnknownTo capacity s.world step
@@ -67,44 +70,45 @@ IsMistold now [] = ⊥
 IsMistold now (order ∷ told) = may_be_told now order ≡ false
 
 -- a copy comes to its end before what is told next
-abbrev pub comes_first : ℕ → ℕ → List Order → Flight → Bool
-comes_first us now [] f = true
-comes_first us now (Step (Clock at) ∷ told) f = nat_le us (elapsed at f)
-comes_first us now (order ∷ told) f = nat_le us (elapsed now f)
+abbrev pub comes_first : ℕ → List Order → Arrival → Bool
+comes_first now [] a = true
+comes_first now (Step (Clock at) ∷ told) a = nat_le a.at at
+comes_first now (order ∷ told) a = nat_le a.at now
 
--- the next copy comes to its end before what is told next, but beyond the last moment that there is
-pub record EndsTooLate (us : ℕ) (s : Stage) : Type 0 where
-  pub copy : Flight
-  pub next : next_copy s ≡ Some copy
-  pub first : comes_first us s.moment s.told copy ≡ true
-  pub late : 2 ^ 64 ≤ copy.moment + us
+-- the next copy came to its end at a moment that is past; or it comes to its end now, where something that is told was done, as it may at the
+-- last moment that there is
+pub record IsMissed (transfer : Transfer) (links : List (List End)) (s : Stage) : Type 0 where
+  pub copy : Arrival
+  pub next : next_copy transfer links s ≡ Some copy
+  pub missed : is_to_come s.moment s.begun copy.at ≡ false
 
 -- what comes next can't be done, or no port is there to judge what was taken
-abbrev pub IsStuck : ℕ → ℕ → Stage → Type 0
-IsStuck capacity us s = IsRefused capacity us s ⊎ (IsMistold s.moment s.told ⊎ (EndsTooLate us s ⊎ (s.due ≡ Judgement None)))
+abbrev pub IsStuck : ℕ → Transfer → List (List End) → Stage → Type 0
+IsStuck capacity transfer links s =
+    IsRefused capacity transfer links s ⊎ (IsMistold s.moment s.told ⊎ (IsMissed transfer links s ⊎ (s.due ≡ Judgement None)))
 
-pub record GetsStuck (capacity us : ℕ) (told : Meaning) : Type 0 where
+pub record GetsStuck (capacity : ℕ) (transfer : Transfer) (told : Meaning) : Type 0 where
   pub orders : List Order
   pub stage : Stage
-  pub begins : Begins capacity us told orders stage
-  pub stuck : IsStuck capacity us stage
+  pub begins : Begins capacity transfer told orders stage
+  pub stuck : IsStuck capacity transfer told.topology.links stage
 
 -- ---- it ends badly
 
 -- all that is told is done, and no copy is on its way, but the world that this leads to isn't ended
-pub record IsUnended (capacity us : ℕ) (told : Meaning) : Type 0 where
+pub record IsUnended (capacity : ℕ) (transfer : Transfer) (told : Meaning) : Type 0 where
   pub orders : List Order
   pub stage : Stage
-  pub all : DoesAll capacity us told orders stage
+  pub all : DoesAll capacity transfer told orders stage
   pub open_end : ¬ IsEnded stage.world
 
--- all that is told is done, and leads to a finished run in which a copy isn't judged a hop after it was passed
-pub record IsLate (capacity us : ℕ) (told : Meaning) : Type 0 where
+-- all that is told is done, and leads to a finished run in which a copy isn't judged when it has to be
+pub record IsLate (capacity : ℕ) (transfer : Transfer) (told : Meaning) : Type 0 where
   pub orders : List Order
   pub stage : Stage
-  pub all : DoesAll capacity us told orders stage
+  pub all : DoesAll capacity transfer told orders stage
   pub ended : IsEnded stage.world
-  pub late : are_in_time us (finished_of capacity stage.world).run ≡ false
+  pub late : are_in_time transfer (finished_of capacity stage.world).run ≡ false
 
 -- ---- why
 
@@ -112,42 +116,47 @@ pub record IsLate (capacity us : ℕ) (told : Meaning) : Type 0 where
 abbrev pub HasBadRoom : Meaning → Type 0
 HasBadRoom told = (told.capacity < 1) ⊎ (4096 < told.capacity)
 
--- a hop takes no time, or no world has such room; or what is told gets stuck, or ends badly
-abbrev pub IsUnmovable : ℕ → ℕ → Meaning → Type 0
-IsUnmovable capacity us told = (us ≡ 0) ⊎ (HasBadRoom told ⊎ (GetsStuck capacity us told ⊎ (IsUnended capacity us told ⊎ IsLate capacity us told)))
+-- a hop takes no time
+abbrev pub IsBadPace : Transfer → Type 0
+IsBadPace (transfer.Hop us) = us ≡ 0
+IsBadPace (transfer.Wire wire) = ⊥
 
--- why what is told isn't moved by hops
-abbrev pub IsUnmovedByHops : ℕ → ℕ → Meaning → Unmoved → Type 0
-IsUnmovedByHops capacity us told (unmoved.Plan fault) = ⊥
-IsUnmovedByHops capacity us told (unmoved.Endless limit) = (limit ≡ order_limit) × IsEndless capacity us told
-IsUnmovedByHops capacity us told unmoved.Differs = IsUnmovable capacity us told
-IsUnmovedByHops capacity us told unmoved.Memory = ⊤
+-- that is so, or no world has such room; or what is told gets stuck, or ends badly
+abbrev pub IsUnmovable : ℕ → Transfer → Meaning → Type 0
+IsUnmovable capacity transfer told = IsBadPace transfer ⊎ (HasBadRoom told ⊎ (GetsStuck capacity transfer told ⊎ (IsUnended capacity transfer told ⊎ IsLate capacity transfer told)))
 
--- so it is where copies move by hops; what is told moves otherwise by itself
+-- why what is told isn't moved at a transfer
+abbrev pub IsUnmovedAtPace : ℕ → Transfer → Meaning → Unmoved → Type 0
+IsUnmovedAtPace capacity transfer told (unmoved.Plan fault) = ⊥
+IsUnmovedAtPace capacity transfer told (unmoved.Endless limit) = (limit ≡ order_limit) × IsEndless capacity transfer told
+IsUnmovedAtPace capacity transfer told unmoved.Differs = IsUnmovable capacity transfer told
+IsUnmovedAtPace capacity transfer told unmoved.Memory = ⊤
+
+-- so it is where copies move by hops or wires; what is told moves otherwise by itself
 abbrev pub IsUnmovedBy : ℕ → Moves → Meaning → Unmoved → Type 0
 IsUnmovedBy capacity EachSendDrains told why = ⊥
 IsUnmovedBy capacity EachMomentDrains told why = ⊥
-IsUnmovedBy capacity (Hop us) told why = IsUnmovedByHops capacity us told why
+IsUnmovedBy capacity (Timed transfer) told why = IsUnmovedAtPace capacity transfer told why
 
--- the copies of a plan move by hops, and this is why what it means isn't moved
+-- the copies of a plan move by hops or wires, and this is why what it means isn't moved
 pub record MeansUnmoved (capacity : ℕ) (plan : Plan) (why : Unmoved) : Type 0 where
-  pub us : ℕ
-  pub by_hops : plan.outline.moves ≡ Hop us
+  pub transfer : Transfer
+  pub at_transfer : plan.outline.moves ≡ Timed transfer
   pub told : Meaning
   pub means : Means plan told
-  pub unmoved : IsUnmovedByHops capacity us told why
+  pub unmoved : IsUnmovedAtPace capacity transfer told why
 
--- this is the first fault of a plan; or its copies move by hops, and this is why they don't
+-- this is the first fault of a plan; or its copies move by hops or wires, and this is why they don't
 abbrev pub IsUnmoved : ℕ → Plan → Unmoved → Type 0
 IsUnmoved capacity plan (unmoved.Plan fault) = FailsAt fault fault.what (listed plan)
 IsUnmoved capacity plan (unmoved.Endless limit) = MeansUnmoved capacity plan (unmoved.Endless limit)
 IsUnmoved capacity plan unmoved.Differs = MeansUnmoved capacity plan unmoved.Differs
 IsUnmoved capacity plan unmoved.Memory = ⊤
 
--- the copies of a plan move by hops, and too many orders do what it means, or what it means can't be moved
+-- the copies of a plan move by hops or wires, and too many orders do what it means, or what it means can't be moved
 pub record IsImmovable (capacity : ℕ) (plan : Plan) : Type 0 where
-  pub us : ℕ
-  pub by_hops : plan.outline.moves ≡ Hop us
+  pub transfer : Transfer
+  pub at_transfer : plan.outline.moves ≡ Timed transfer
   pub told : Meaning
   pub means : Means plan told
-  pub why : IsEndless capacity us told ⊎ IsUnmovable capacity us told
+  pub why : IsEndless capacity transfer told ⊎ IsUnmovable capacity transfer told

@@ -1,43 +1,49 @@
 //! What comes next, done until nothing is left to do.
-ghost use Rattle.std.specs.Prelude.{◌≡◌, ◌≤◌, ◌<◌, ◌∷◌, true, None, Some, IfErr, IfOk, OnOk};
+ghost use Rattle.std.specs.Prelude.{◌≡◌, ◌≤◌, ◌<◌, ◌∷◌, false, true, None, Some, IfErr, IfOk, OnOk};
 ghost use Rattle.hsr_duptable.specs.Table.{IsTableSize};
 ghost use Rattle.hsr_plan_hops.specs.Beginning.{DoesAll, next_copy};
-ghost use Rattle.hsr_plan_hops.specs.Flights.{elapsed};
+ghost use Rattle.hsr_plan_hops.specs.Flights.{is_to_come};
 ghost use Rattle.hsr_plan_hops.specs.Moving.{world_of};
-ghost use Rattle.hsr_plan_hops.specs.Refusing.{IsUnmovedByHops, comes_first, may_be_told};
+ghost use Rattle.hsr_plan_hops.specs.Refusing.{IsUnmovedAtPace, comes_first, may_be_told};
 ghost use Rattle.hsr_plan_hops.specs.Weaving.{Advances, AdvancesIf, GoesOnFrom, IsIdle, arriving, behind_moment};
 
-use crate::flights::{Flight, elapsed};
+use crate::arrivals::is_to_come;
+use crate::flights::{Arrival, Channels};
 use crate::stage::Stage;
 use crate::turns::Due;
 use crate::unmoved::Unmoved;
 use crate::weaving::{Weaving, does, obeys, settles};
 use hsr_frame::NoMemory;
 use hsr_plan_schedule::Meaning;
+use hsr_plan_text::Transfer;
 use hsr_ring::World;
 use hsr_scenario::Order;
+use hsr_topology::Topology;
 use hsr_world_steps::Step;
 use std::alloc::Global;
-use std::collections::VecDeque;
 
 /// Whether a copy comes to its end before what is told next.
-fn comes_first(us: u64, now: u64, told: &[Order], flight: Flight) -> bool
-    ensures { result ≡ comes_first us now told.now flight }
+fn comes_first(now: u64, told: &[Order], copy: Arrival) -> bool
+    ensures { result ≡ comes_first now told.now copy }
 {
     match told.first() {
         // At one moment a copy comes to its end before what is told there.
-        Some(Order::Step(Step::Clock { at })) => us <= elapsed(*at, flight),
-        Some(_) => us <= elapsed(now, flight),
+        Some(Order::Step(Step::Clock { at })) => copy.at <= *at,
+        Some(_) => copy.at <= now,
         None => true,
     }
 }
 
 /// The next copy, if it comes to its end before what is told next.
-fn arriving<const C: usize>(us: u64, stage: &Stage<'_, C>) -> Option<Flight>
-    ensures { result ≡ arriving us stage.now }
+fn arriving<const C: usize>(
+    transfer: Transfer,
+    topology: &Topology,
+    stage: &Stage<'_, C>,
+) -> Option<Arrival>
+    ensures { result ≡ arriving transfer topology.now.links stage.now }
 {
-    let copy = stage.next_copy()?;
-    if comes_first(us, stage.moment, stage.told, copy) {
+    let copy = stage.next_copy(transfer, topology)?;
+    if comes_first(stage.moment, stage.told, copy) {
         Some(copy)
     } else {
         None
@@ -47,20 +53,20 @@ fn arriving<const C: usize>(us: u64, stage: &Stage<'_, C>) -> Option<Flight>
 /// Takes a copy that has come to its end.
 fn takes<const C: usize>(
     told: &Meaning,
-    us: u64,
-    copy: Flight,
+    transfer: Transfer,
+    copy: Arrival,
     weaving: &mut Weaving<'_, C>,
 ) -> Result<(), Unmoved>
-    requires time { 1 ≤ us }
-    requires idle { IsIdle C us told.now weaving.old }
-    requires next { next_copy weaving.old.stage ≡ Some copy }
-    requires over { us ≤ elapsed weaving.old.stage.moment copy }
-    ensures ok { OnOk result (Advances C us told.now weaving.old weaving.new) }
-    ensures err { IfErr result (IsUnmovedByHops C us told.now) }
+    requires idle { IsIdle C transfer told.now weaving.old }
+    requires next { next_copy transfer told.now.topology.links weaving.old.stage ≡ Some copy }
+    requires now { copy.at ≡ weaving.old.stage.moment }
+    requires first { weaving.old.stage.begun ≡ false }
+    ensures ok { OnOk result (Advances C transfer told.now weaving.old weaving.new) }
+    ensures err { IfErr result (IsUnmovedAtPace C transfer told.now) }
 {
-    let Flight { link, dir, .. } = copy;
+    let Arrival { link, dir, .. } = copy;
     let more = weaving.stage.told;
-    does(told, us, &Step::Take { link, dir }, more, weaving)
+    does(told, transfer, &Step::Take { link, dir }, more, weaving)
 }
 
 /// What is told behind a moment that comes next.
@@ -77,43 +83,41 @@ fn behind_moment(at: u64, told: &[Order]) -> &[Order]
 /// Sets the moment at which a copy comes to its end.
 fn waits<const C: usize>(
     told: &Meaning,
-    us: u64,
-    copy: Flight,
+    transfer: Transfer,
+    copy: Arrival,
     weaving: &mut Weaving<'_, C>,
 ) -> Result<(), Unmoved>
-    requires time { 1 ≤ us }
-    requires idle { IsIdle C us told.now weaving.old }
-    requires next { next_copy weaving.old.stage ≡ Some copy }
-    requires first { comes_first us weaving.old.stage.moment weaving.old.stage.told copy ≡ true }
-    requires early { elapsed weaving.old.stage.moment copy < us }
-    ensures ok { OnOk result (Advances C us told.now weaving.old weaving.new) }
-    ensures err { IfErr result (IsUnmovedByHops C us told.now) }
+    requires idle { IsIdle C transfer told.now weaving.old }
+    requires next { next_copy transfer told.now.topology.links weaving.old.stage ≡ Some copy }
+    requires first { comes_first weaving.old.stage.moment weaving.old.stage.told copy ≡ true }
+    requires early { weaving.old.stage.moment < copy.at }
+    ensures ok { OnOk result (Advances C transfer told.now weaving.old weaving.new) }
+    ensures err { IfErr result (IsUnmovedAtPace C transfer told.now) }
 {
-    // A hop that ends behind the last moment of 64 bits never does.
-    let Some(at) = copy.moment.checked_add(us) else {
-        return Err(Unmoved::Differs);
-    };
-    let more = behind_moment(at, weaving.stage.told);
-    does(told, us, &Step::Clock { at }, more, weaving)
+    let more = behind_moment(copy.at, weaving.stage.told);
+    does(told, transfer, &Step::Clock { at: copy.at }, more, weaving)
 }
 
 /// Takes a copy that comes to its end before what is told next, or sets the moment at which it does.
 fn lands<const C: usize>(
     told: &Meaning,
-    us: u64,
-    copy: Flight,
+    transfer: Transfer,
+    copy: Arrival,
     weaving: &mut Weaving<'_, C>,
 ) -> Result<(), Unmoved>
-    requires time { 1 ≤ us }
-    requires idle { IsIdle C us told.now weaving.old }
-    requires arriving { arriving us weaving.old.stage ≡ Some copy }
-    ensures ok { OnOk result (Advances C us told.now weaving.old weaving.new) }
-    ensures err { IfErr result (IsUnmovedByHops C us told.now) }
+    requires idle { IsIdle C transfer told.now weaving.old }
+    requires arriving { arriving transfer told.now.topology.links weaving.old.stage ≡ Some copy }
+    ensures ok { OnOk result (Advances C transfer told.now weaving.old weaving.new) }
+    ensures err { IfErr result (IsUnmovedAtPace C transfer told.now) }
 {
-    if us <= elapsed(weaving.stage.moment, copy) {
-        takes(told, us, copy, weaving)
+    if !is_to_come(weaving.stage.moment, weaving.stage.begun, copy.at) {
+        // Nothing brings back a moment that is past.
+        return Err(Unmoved::Differs);
+    }
+    if weaving.stage.moment < copy.at {
+        waits(told, transfer, copy, weaving)
     } else {
-        waits(told, us, copy, weaving)
+        takes(told, transfer, copy, weaving)
     }
 }
 
@@ -133,20 +137,20 @@ fn may_be_told(now: u64, order: &Order) -> bool
 /// Does what is told next, where no copy comes to its end before.
 fn follows<'a, const C: usize>(
     told: &Meaning,
-    us: u64,
+    transfer: Transfer,
     order: &Order,
     more: &'a [Order],
     weaving: &mut Weaving<'a, C>,
 ) -> Result<(), Unmoved>
-    requires idle { IsIdle C us told.now weaving.old }
+    requires idle { IsIdle C transfer told.now weaving.old }
     requires first { weaving.old.stage.told ≡ order.now ∷ more.now }
-    requires arriving { arriving us weaving.old.stage ≡ None }
-    ensures ok { OnOk result (Advances C us told.now weaving.old weaving.new) }
-    ensures err { IfErr result (IsUnmovedByHops C us told.now) }
+    requires arriving { arriving transfer told.now.topology.links weaving.old.stage ≡ None }
+    ensures ok { OnOk result (Advances C transfer told.now weaving.old weaving.new) }
+    ensures err { IfErr result (IsUnmovedAtPace C transfer told.now) }
 {
     match order {
         Order::Step(step) if may_be_told(weaving.stage.moment, order) => {
-            obeys(told, us, step, more, weaving)
+            obeys(told, transfer, step, more, weaving)
         }
         // So a refusal is true of the plan: the order that comes next can't be done.
         _ => Err(Unmoved::Differs),
@@ -156,39 +160,37 @@ fn follows<'a, const C: usize>(
 /// Does what comes next. The answer is whether something did.
 fn advances<const C: usize>(
     told: &Meaning,
-    us: u64,
+    transfer: Transfer,
     weaving: &mut Weaving<'_, C>,
 ) -> Result<bool, Unmoved>
-    requires time { 1 ≤ us }
-    requires idle { IsIdle C us told.now weaving.old }
-    ensures ok { IfOk result (AdvancesIf C us told.now weaving.old weaving.new) }
-    ensures err { IfErr result (IsUnmovedByHops C us told.now) }
+    requires idle { IsIdle C transfer told.now weaving.old }
+    ensures ok { IfOk result (AdvancesIf C transfer told.now weaving.old weaving.new) }
+    ensures err { IfErr result (IsUnmovedAtPace C transfer told.now) }
 {
-    if let Some(copy) = arriving(us, &weaving.stage) {
-        lands(told, us, copy, weaving)?;
+    if let Some(copy) = arriving(transfer, &told.topology, &weaving.stage) {
+        lands(told, transfer, copy, weaving)?;
         return Ok(true);
     }
     let Some((order, more)) = weaving.stage.told.split_first() else {
         return Ok(false);
     };
-    follows(told, us, order, more, weaving)?;
+    follows(told, transfer, order, more, weaving)?;
     Ok(true)
 }
 
 /// Does what comes next, and what has to be done at once behind it. The answer is whether something did.
 fn goes_on<const C: usize>(
     told: &Meaning,
-    us: u64,
+    transfer: Transfer,
     weaving: &mut Weaving<'_, C>,
 ) -> Result<bool, Unmoved>
-    requires time { 1 ≤ us }
-    requires idle { IsIdle C us told.now weaving.old }
-    ensures ok { IfOk result (GoesOnFrom C us told.now weaving.old weaving.new) }
-    ensures err { IfErr result (IsUnmovedByHops C us told.now) }
+    requires idle { IsIdle C transfer told.now weaving.old }
+    ensures ok { IfOk result (GoesOnFrom C transfer told.now weaving.old weaving.new) }
+    ensures err { IfErr result (IsUnmovedAtPace C transfer told.now) }
 {
-    if advances(told, us, weaving)? {
+    if advances(told, transfer, weaving)? {
         // Behind each step at once, so that a copy is put at the moment at which it was passed.
-        settles(told, us, weaving)?;
+        settles(told, transfer, weaving)?;
         Ok(true)
     } else {
         Ok(false)
@@ -198,17 +200,16 @@ fn goes_on<const C: usize>(
 /// Does all that is told, and brings all copies to their ends.
 fn does_all<const C: usize>(
     told: &Meaning,
-    us: u64,
+    transfer: Transfer,
     weaving: &mut Weaving<'_, C>,
 ) -> Result<(), Unmoved>
-    requires time { 1 ≤ us }
-    requires idle { IsIdle C us told.now weaving.old }
-    ensures ok { OnOk result (DoesAll C us told.now weaving.new.orders weaving.new.stage) }
-    ensures err { IfErr result (IsUnmovedByHops C us told.now) }
+    requires idle { IsIdle C transfer told.now weaving.old }
+    ensures ok { OnOk result (DoesAll C transfer told.now weaving.new.orders weaving.new.stage) }
+    ensures err { IfErr result (IsUnmovedAtPace C transfer told.now) }
 {
     // It ends, since orders are counted: over 2^20 of them are `Endless`.
     'orders: loop {
-        if !goes_on(told, us, weaving)? {
+        if !goes_on(told, transfer, weaving)? {
             return Ok(());
         }
     }
@@ -224,31 +225,31 @@ fn world_of<const C: usize>(alloc: Global, told: &Meaning) -> Result<World<C>, N
     Ok(World::<C>::new(alloc, topology, told.capacity)?)
 }
 
-/// The orders that do what is told, with the moves of copies among them: each is put at once, and taken and judged `us` microseconds
-/// later. Beside them stands the stage that they lead to.
+/// The orders that do what is told, with the moves of copies among them: each is put at once, and taken and judged when it comes to its
+/// end. Beside them stands the stage that they lead to.
 pub(crate) fn woven<const C: usize>(
     alloc: Global,
     told: &Meaning,
-    us: u64,
+    transfer: Transfer,
 ) -> Result<Weaving<'_, C>, Unmoved>
     requires entries { IsTableSize C }
     requires room { (1 ≤ told.now.capacity) × (told.now.capacity ≤ 4096) }
-    requires time { 1 ≤ us }
-    ensures ok { IfOk result (λ v. DoesAll C us told.now v.orders v.stage) }
-    ensures err { IfErr result (IsUnmovedByHops C us told.now) }
+    ensures ok { IfOk result (λ v. DoesAll C transfer told.now v.orders v.stage) }
+    ensures err { IfErr result (IsUnmovedAtPace C transfer told.now) }
 {
     let stage = Stage {
         told: told.orders.as_slice(),
         due: Due::Nothing,
         moment: 0,
         begun: false,
-        flights: VecDeque::new(alloc),
+        turn: 0,
+        channels: Channels::new(alloc, told.topology.links())?,
         world: world_of::<C>(alloc, told)?,
     };
     let mut weaving = Weaving {
         stage,
         orders: Vec::new(alloc),
     };
-    does_all(told, us, &mut weaving)?;
+    does_all(told, transfer, &mut weaving)?;
     Ok(weaving)
 }

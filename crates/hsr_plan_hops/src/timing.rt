@@ -1,11 +1,14 @@
-//! How long the copies of a finished run were on their way.
+//! When the copies of a finished run were judged.
 ghost use Rattle.std.specs.Prelude.{◌≡◌, slice_get, IfOk};
 ghost use Rattle.std.specs.List.{list_all};
 ghost use Rattle.hsr_run_laws.specs.Run.{record_of};
-ghost use Rattle.hsr_plan_hops.specs.Hops.{are_in_time, is_in_time, is_later_by, moment_at, moment_if};
+ghost use Rattle.hsr_plan_hops.specs.Hops.{is_in_time, is_later_by, moment_at, moment_if};
+ghost use Rattle.hsr_plan_hops.specs.Timing.{are_in_time};
 
+use crate::wires::fit;
 use hsr_finished_run::Closed;
 use hsr_frame::NoMemory;
+use hsr_plan_text::Transfer;
 use hsr_timeline::{Hop, Spot, hops};
 use std::alloc::Global;
 
@@ -23,7 +26,7 @@ fn moment_of<const C: usize>(closed: &Closed<C>, spot: Spot) -> Option<u64>
 }
 
 /// The moment of an entry, if it is told.
-fn moment_at<const C: usize>(closed: &Closed<C>, spot: Option<Spot>) -> Option<u64>
+pub(crate) fn moment_at<const C: usize>(closed: &Closed<C>, spot: Option<Spot>) -> Option<u64>
     ensures { result ≡ moment_at closed.now.run spot }
 {
     match spot {
@@ -71,14 +74,17 @@ fn are_all_in_time<const C: usize>(closed: &Closed<C>, us: u64, hops: &[Hop]) ->
     true
 }
 
-/// Whether each copy that wasn't lost was judged `us` microseconds after it was passed.
+/// Whether each copy that wasn't lost was judged when it had to be.
 pub(crate) fn are_in_time<const C: usize>(
     alloc: Global,
     closed: &Closed<C>,
-    us: u64,
+    transfer: Transfer,
 ) -> Result<bool, NoMemory>
-    ensures { IfOk result (λ b. b ≡ are_in_time us closed.now.run) }
+    ensures { IfOk result (λ b. b ≡ are_in_time transfer closed.now.run) }
 {
     let hops = hops(alloc, closed)?;
-    Ok(are_all_in_time(closed, us, hops.as_slice()))
+    match transfer {
+        Transfer::Hop(us) => Ok(are_all_in_time(closed, us, hops.as_slice())),
+        Transfer::Wire(wire) => Ok(fit(closed, wire, hops.as_slice())),
+    }
 }

@@ -17,7 +17,7 @@ pub(crate) enum Due {
 }
 
 /// The port to which a direction of a link leads.
-fn receiver(links: &[[End; 2]], link: usize, dir: Dir) -> Option<End>
+pub(crate) fn receiver(links: &[[End; 2]], link: usize, dir: Dir) -> Option<End>
     ensures { result ≡ receiver links.now link dir }
 {
     match links.get(link) {

@@ -12,7 +12,7 @@ pub enum Unmoved {
     Plan(PlanFault),
     /// Copies are still on their way after this number of orders.
     Endless(usize),
-    /// Copies can't be moved by hops: what comes next can't be done, or what is done doesn't end as it has to.
+    /// Copies can't be moved by hops or wires: what comes next can't be done, or what is done doesn't end as it has to.
     Differs,
     /// Allocation failed.
     Memory,

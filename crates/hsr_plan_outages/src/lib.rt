@@ -11,4 +11,6 @@ mod lines;
 mod names;
 mod outages;
 
+pub use lines::put_fault;
+pub use names::{put_end, put_node};
 pub use outages::{AtOnce, put_outages};

@@ -28,8 +28,9 @@ fn put_off(text: &mut Vec<u8>, nodes: &[Node], links: &[[End; 2]], off: Off) -> 
     }
 }
 
-/// Puts all that is off last.
-fn put_fault(
+/// Puts all that is off last, as `link 3 prot1.B qb2.A` or `node 4 qb2`, two behind one another. `NoMemory` if allocation fails; a front
+/// of it may stand there then.
+pub fn put_fault(
     text: &mut Vec<u8>,
     nodes: &[Node],
     links: &[[End; 2]],

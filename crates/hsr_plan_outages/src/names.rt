@@ -17,8 +17,8 @@ fn name_of(nodes: &[Node], number: usize) -> &[u8]
     }
 }
 
-/// Puts the name of the node of that number last.
-pub(crate) fn put_node(text: &mut Vec<u8>, nodes: &[Node], number: usize) -> Result<(), NoMemory>
+/// Puts the name of the node of that number last, nothing where there is none. `NoMemory` if allocation fails.
+pub fn put_node(text: &mut Vec<u8>, nodes: &[Node], number: usize) -> Result<(), NoMemory>
     ensures { OnOk result (text.new.items ≡ text.old.items ++ node_name nodes.now number) }
 {
     put_octets(text, name_of(nodes, number))
@@ -34,9 +34,9 @@ fn letter_at(nodes: &[Node], end: End) -> u8
     }
 }
 
-/// Puts an end of a link last, as `qb2.A`.
+/// Puts an end of a link last, as `qb2.A`. `NoMemory` if allocation fails; a front of it may stand there then.
 #[tactic(auto, unfolding(crate::specs::Names::end_text))]
-fn put_end(text: &mut Vec<u8>, nodes: &[Node], end: End) -> Result<(), NoMemory>
+pub fn put_end(text: &mut Vec<u8>, nodes: &[Node], end: End) -> Result<(), NoMemory>
     ensures { OnOk result (text.new.items ≡ text.old.items ++ end_text nodes.now end) }
 {
     put_node(text, nodes, end.node)?;

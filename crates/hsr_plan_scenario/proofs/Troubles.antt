@@ -16,8 +16,9 @@ use Rattle.hsr_plan_text.specs.declared.fault.What.TheVariants.{Text, Missing, U
 use Rattle.hsr_plan_schedule.specs.Meaning.{Meaning, listed}
 use Rattle.hsr_plan_scenario.specs.Refusals.{HasNoScenario, HasNoneIf, IfDiffers, IsKnown, IsMisread, IsTroubleIn, IsTroubleOf, IsUnmoved, IsUntold, MeansNothing, unread}
 use Rattle.hsr_plan_hops.specs.Refusing.{IsImmovable}
+use Rattle.hsr_plan_scenario.specs.Runs.{IsUnrunOf}
 use Rattle.hsr_plan_scenario.specs.Says.{IsTitled, Tells, names_meant_by, scenario_meant}
-use Rattle.hsr_plan_scenario.specs.Spelled.{front_text, links_text, nodes_text, order_lines, scenario_text, summary_text, title_text}
+use Rattle.hsr_plan_scenario.specs.Spelled.{front_text, links_text, nodes_text, order_lines, room_text, scenario_text, summary_text, title_text}
 use Rattle.hsr_plan_scenario.specs.declared.checking.Trouble.{Trouble}
 use Rattle.hsr_plan_scenario.specs.declared.checking.Trouble.TheVariants.{Plan as Faulty, TooLong, Endless, Differs}
 use Rattle.hsr_plan_scenario.proofs.Whole.{no_scenario}
@@ -80,9 +81,9 @@ unfolding scenario_text front_text
 titled_by None outline m is = tt
 titled_by (Some title) outline m is = (
   _,
-  ap (λ t. ((((((((title_text t ++ summary_text outline.moves m) ++ codes "unit = \"us\"\ncapacity = ") ++ decimal m.capacity) ++ codes "\n") ++ nodes_text m.nodes)
+  ap (λ t. ((((((((title_text t ++ summary_text outline.moves m) ++ codes "unit = \"us\"\ncapacity = ") ++ decimal m.capacity) ++ room_text outline.capacity m.at_once) ++ nodes_text m.nodes)
       ++ links_text m.nodes m.topology.links) ++ codes "step = [\n") ++ order_lines m.nodes m.streams m.sends m.orders) ++ codes "]\n") is
-      ∙ joined (codes "# " ++ title ++ codes "\n") (summary_text outline.moves m) (codes "unit = \"us\"\ncapacity = ") (decimal m.capacity) (codes "\n") (nodes_text m.nodes)
+      ∙ joined (codes "# " ++ title ++ codes "\n") (summary_text outline.moves m) (codes "unit = \"us\"\ncapacity = ") (decimal m.capacity) (room_text outline.capacity m.at_once) (nodes_text m.nodes)
       (links_text m.nodes m.topology.links) (codes "step = [\n") (order_lines m.nodes m.streams m.sends m.orders) (codes "]\n"),
 )
 
@@ -108,8 +109,8 @@ misread outline m (Endless steps) known h = absurd cc
 -- a plan that isn't moved means nothing, or can't be moved
 pub unmoved_why : (capacity : ℕ) (plan : Plan) (trouble : Trouble) → IsKnown trouble → IsUnmoved capacity plan trouble → MeansNothing plan ⊎ IsImmovable capacity plan
 unmoved_why capacity plan (Faulty fault) known is = inl (fault, plan_fault fault fault.what (listed plan) known is)
-unmoved_why capacity plan (Endless limit) known is = inr (record { us = is.us; by_hops = is.by_hops; told = is.told; means = is.means; why = inl is.unmoved.1 })
-unmoved_why capacity plan Differs known is = inr (record { us = is.us; by_hops = is.by_hops; told = is.told; means = is.means; why = inr is.unmoved })
+unmoved_why capacity plan (Endless limit) known is = inr (record { transfer = is.transfer; at_transfer = is.at_transfer; told = is.told; means = is.means; why = inl is.unmoved.1 })
+unmoved_why capacity plan Differs known is = inr (record { transfer = is.transfer; at_transfer = is.at_transfer; told = is.told; means = is.means; why = inr is.unmoved })
 unmoved_why capacity plan (TooLong octets) known none = absurd none
 
 unmoved_so : (capacity : ℕ) (plan : Plan) (trouble : Trouble) → IsKnown trouble → IsUnmoved capacity plan trouble → HasNoScenario capacity plan
@@ -151,3 +152,7 @@ tells outline m text words (Ok done) same is spelled means named = record {
   titled = let P : List ℕ → Type 0 = IsTitled outline.title in subst P (sym spelled) (titled outline m);
 }
 tells outline m text words (Err e) same is spelled means named = tt
+
+-- so it has no run
+pub unrun_so : (capacity : ℕ) (plan : Plan) (trouble : Trouble) → IsKnown trouble → IsUnmoved capacity plan trouble → IsUnrunOf capacity plan
+unrun_so capacity plan trouble known is = ⊎_elim (λ nothing. inl nothing) (λ immovable. inr (inl immovable)) (unmoved_why capacity plan trouble known is)

@@ -4,3 +4,4 @@ pub mod Says
 pub mod Refusals
 pub mod Input
 pub mod Ends
+pub mod Runs

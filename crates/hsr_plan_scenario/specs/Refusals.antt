@@ -40,7 +40,7 @@ use Rattle.hsr_plan_scenario.specs.declared.judging.Wrong.TheVariants.{Told, Ope
 abbrev pub MeansNothing : Plan → Type 0
 MeansNothing plan = (fault : PlanFault) × (listed plan ≡ Err fault)
 
--- this is the first fault of a plan; or its copies move by hops, and this is why they don't
+-- this is the first fault of a plan; or its copies move by hops or wires, and this is why they don't
 abbrev pub IsUnmoved : ℕ → Plan → Trouble → Type 0
 IsUnmoved capacity plan (Faulty fault) = FailsAt fault fault.what (listed plan)
 IsUnmoved capacity plan (Endless limit) = MeansUnmoved capacity plan (unmoved.Endless limit)
@@ -90,7 +90,7 @@ abbrev pub IsKnown : Trouble → Type 0
 IsKnown (Faulty fault) = fault.what ≢ NoMemory
 IsKnown trouble = ⊤
 
--- a plan has no scenario: it means nothing; or what it means can't be moved by hops; or the text of what it means isn't read as that, as
+-- a plan has no scenario: it means nothing; or what it means can't be moved by hops or wires; or the text of what it means isn't read as that, as
 -- none of over 16 MiB is
 abbrev pub HasNoScenario : ℕ → Plan → Type 0
 HasNoScenario capacity plan = MeansNothing plan ⊎ (IsImmovable capacity plan ⊎ ((m : Meaning) × MeansMoved capacity plan m × IsMisread plan.outline m))

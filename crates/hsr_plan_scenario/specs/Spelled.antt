@@ -25,7 +25,12 @@ use Rattle.hsr_scenario.specs.declared.steps.Order.TheVariants.{Step, Drain}
 use Rattle.hsr_table_demand.specs.Windows.{most_in}
 use Rattle.hsr_plan_text.specs.Plan.{Outline}
 use Rattle.hsr_plan_text.specs.declared.plan.Moves.{Moves}
-use Rattle.hsr_plan_text.specs.declared.plan.Moves.TheVariants.{EachSendDrains, EachMomentDrains, Hop}
+use Rattle.hsr_plan_text.specs.declared.plan.Moves.TheVariants.{EachSendDrains, EachMomentDrains, Timed}
+use Rattle.hsr_plan_text.specs.declared.plan.Transfer.{Transfer}
+use Rattle.hsr_plan_text.specs.declared.plan.Transfer.TheVariants as transfer
+use Rattle.hsr_plan_text.specs.declared.plan.Switching.{Switching}
+use Rattle.hsr_plan_text.specs.declared.plan.Switching.TheVariants.{Store, Cut}
+use Rattle.hsr_plan_text.specs.declared.plan.Wire.{Wire}
 use Rattle.hsr_plan_network.specs.Nodes.{Node}
 use Rattle.hsr_plan_schedule.specs.Meaning.{Meaning}
 use Rattle.hsr_plan_scenario.specs.Sends.{next_stream, send_moments, sends_behind}
@@ -196,11 +201,22 @@ abbrev pub title_text : Option (List ℕ) → List ℕ
 title_text None = []
 title_text (Some title) = codes "# " ++ title ++ codes "\n"
 
+abbrev pub switching_text : Switching → List ℕ
+switching_text Store = codes "store"
+switching_text Cut = codes "cut"
+
+unfoldable pub wire_text : Wire → List ℕ
+wire_text wire = codes "wire " ++ decimal wire.rate ++ codes " Mbit/s, " ++ decimal wire.residence ++ codes " us, " ++ switching_text wire.switching
+
+abbrev pub transfer_text : Transfer → List ℕ
+transfer_text (transfer.Hop us) = codes "hop_us = " ++ decimal us
+transfer_text (transfer.Wire wire) = wire_text wire
+
 -- how copies move, as a plan tells it
 abbrev pub moves_text : Moves → List ℕ
 moves_text EachSendDrains = codes "each send drains"
 moves_text EachMomentDrains = codes "each moment drains"
-moves_text (Hop us) = codes "hop_us = " ++ decimal us
+moves_text (Timed transfer) = transfer_text transfer
 
 -- how many nodes and links there are
 unfoldable pub sizes_text : ℕ → ℕ → List ℕ
@@ -224,11 +240,20 @@ nodes_text nodes = codes "node = [\n" ++ flat_map node_line nodes ++ codes "]\n"
 unfoldable pub links_text : List Node → List (List End) → List ℕ
 links_text nodes links = codes "link = [\n" ++ link_lines nodes links ++ codes "]\n"
 
+-- where no capacity is said, and more sends may be under way at once than the largest holds, their number
+abbrev pub crowd_text : Option ℕ → ℕ → List ℕ
+crowd_text (Some said) sends = []
+crowd_text None sends = if nat_lt 4096 sends then codes "  # the most that there is: up to " ++ decimal sends ++ codes " sends may be under way at once" else []
+
+-- what ends the line of the capacity
+unfoldable pub room_text : Option ℕ → ℕ → List ℕ
+room_text said sends = crowd_text said sends ++ codes "\n"
+
 -- what stands before the orders
 unfoldable pub front_text : Outline → Meaning → List ℕ
 front_text outline m =
-    title_text outline.title ++ summary_text outline.moves m ++ codes "unit = \"us\"\ncapacity = " ++ decimal m.capacity ++ codes "\n" ++ nodes_text m.nodes ++ links_text m.nodes m.topology.links
-    ++ codes "step = [\n"
+    title_text outline.title ++ summary_text outline.moves m ++ codes "unit = \"us\"\ncapacity = " ++ decimal m.capacity ++ room_text outline.capacity m.at_once ++ nodes_text m.nodes
+    ++ links_text m.nodes m.topology.links ++ codes "step = [\n"
 
 -- the scenario that is meant, with what the plan says besides
 unfoldable pub scenario_text : Outline → Meaning → List ℕ

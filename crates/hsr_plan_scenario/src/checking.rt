@@ -30,7 +30,7 @@ pub enum Trouble {
     TooLong(usize),
     /// Copies are still on their way after this number of steps.
     Endless(usize),
-    /// Copies can't be moved by hops, or the scenario's text doesn't say what the plan means.
+    /// Copies can't be moved by hops or wires, or the scenario's text doesn't say what the plan means.
     Differs,
 }
 
@@ -58,7 +58,7 @@ fn trouble_of(unmoved: Unmoved) -> Trouble
 }
 
 /// What a plan means in a world with tables of `C` entries, once its copies move. `Plan` has the first fault of the plan, and `Endless` and
-/// `Differs` come only where its copies move by hops, as `moved_meaning_of` says.
+/// `Differs` come only where its copies move by hops or wires, as `moved_meaning_of` says.
 pub fn moved<const C: usize>(alloc: Global, plan: &Plan) -> Result<Meaning, Trouble>
     requires { IsTableSize C }
     ensures means { IfOk result (MeansMoved C plan.now) }
@@ -167,8 +167,10 @@ fn checked(alloc: Global, plan: &Plan, meant: &Meaning) -> Result<Vec<u8>, Troub
 }
 
 /// The text of the scenario that a plan means in a world with tables of `C` entries, with the plan's names. Its first comments
-/// are the plan's title, and a line that counts nodes, links and sends, and says how many sends lie in 800 milliseconds at most. Before it is answered it is read back and compared with what the plan means: a text that differs is `Differs`. One of over
-/// 16 MiB is `TooLong`, and isn't formed. All other troubles are those of `moved`.
+/// are the plan's title, and a line that counts nodes, links and sends, and says how many sends lie in 800 milliseconds at most. Where the
+/// plan says no capacity, and more than 4096 sends may be under way at once, their number stands behind the capacity. Before it is answered
+/// it is read back and compared with what the plan means: a text that differs is `Differs`. One of over 16 MiB is `TooLong`, and isn't
+/// formed. All other troubles are those of `moved`.
 pub fn scenario_of_meaning<const C: usize>(alloc: Global, plan: &Plan) -> Result<Vec<u8>, Trouble>
     requires { IsTableSize C }
     ensures says { IfOk result (λ text. Says C plan.now text.items) }

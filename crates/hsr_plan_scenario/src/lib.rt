@@ -8,11 +8,13 @@
 //! - `input`: the line that tells why a text isn't read
 //! - `planning`: the whole way from a plan's text to its scenario's
 //! - `judging`: whether a text is a scenario that can be played to its end
+//! - `meant`: the run of what a plan means, without a scenario between, and what its nodes are called
 #![tactic(auto)]
 
 mod checking;
 mod input;
 mod judging;
+mod meant;
 mod planning;
 mod same;
 mod sends;
@@ -21,4 +23,6 @@ mod spelling;
 pub use checking::{Trouble, moved, scenario_of_meaning, scenario_of_plan};
 pub use hsr_text::{InputFault, read_text};
 pub use judging::check_run;
+pub use meant::{node_names, run_meant};
 pub use planning::{Ending, Line, complain, deliver, fail, line_of, plan_run, words};
+pub use same::streams_meant;

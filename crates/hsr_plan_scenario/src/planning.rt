@@ -98,7 +98,7 @@ pub fn line_of(alloc: Global, text: &str, trouble: &Trouble) -> Line
         Trouble::Endless(steps) => endless(alloc, *steps),
         Trouble::Differs => words(
             alloc,
-            "fault: plan 1:1 copies can't be moved by hops, or the scenario's text doesn't say what the plan means",
+            "fault: plan 1:1 copies can't be moved by hops or wires, or the scenario's text doesn't say what the plan means",
         ),
     }
 }

@@ -106,8 +106,9 @@ fn are_same_streams(a: &[Vec<Vec<u8>>], b: &[Vec<Vec<u8>>]) -> bool
     others.is_empty()
 }
 
-/// From which streams the sends of nodes are, as a plan means it.
-fn streams_meant(alloc: Global, meaning: &Meaning) -> Result<Vec<Vec<Vec<u8>>>, NoMemory>
+/// From which streams the sends of nodes are, as a plan means it: of each node the stream of each of its sends and supervision frames, in
+/// their order; an empty name, where it's from none. `NoMemory` if allocation fails.
+pub fn streams_meant(alloc: Global, meaning: &Meaning) -> Result<Vec<Vec<Vec<u8>>>, NoMemory>
     ensures { IfOk result (λ v. map (λ list. map (λ name. name.items) list.items) v.items
         ≡ streams_meant meaning.now) }
 {

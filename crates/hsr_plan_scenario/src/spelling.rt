@@ -8,15 +8,16 @@ ghost use Rattle.std.specs.Fmt.{decimal};
 ghost use Rattle.std.specs.List.{flat_map};
 ghost use Rattle.hex.specs.Hex.{encode_upper};
 ghost use Rattle.hsr_frame.specs.Grammar.{pair};
-ghost use Rattle.hsr_plan_scenario.specs.Spelled.{about_text, at_link, at_node, at_port, clock_text, comma, counts_text, digits_text, dir_text, does_text, frame_text, from_text, front_text, letter_or, link_line, link_lines, links_text, listed, mac_text, mode_text, moves_text, name_of, name_text, node_line, nodes_text, octets_text, order_line, order_lines, order_text, place_text, port_text, ring_place_text, role_text, scenario_text, sends_text, sizes_text, station_text, stations_text, step_text, stream_text, summary_text, title_text, vlan_text};
+ghost use Rattle.hsr_plan_scenario.specs.Spelled.{about_text, at_link, at_node, at_port, clock_text, comma, counts_text, crowd_text, digits_text, dir_text, does_text, frame_text, from_text, front_text, letter_or, link_line, link_lines, links_text, listed, mac_text, mode_text, moves_text, name_of, name_text, node_line, nodes_text, octets_text, order_line, order_lines, order_text, place_text, port_text, ring_place_text, role_text, room_text, scenario_text, sends_text, sizes_text, station_text, stations_text, step_text, stream_text, summary_text, switching_text, title_text, transfer_text, vlan_text, wire_text};
 
+use crate::meant::CAPACITY_LIMIT;
 use crate::sends::{next_stream, send_moments, sends_behind};
 use hsr_frame::{About, Mac, Mode, NoMemory};
 use hsr_link::Dir;
 use hsr_node::Place;
 use hsr_plan_network::Node;
 use hsr_plan_schedule::Meaning;
-use hsr_plan_text::{Moves, Outline, Word};
+use hsr_plan_text::{Moves, Outline, Switching, Transfer, Wire, Word};
 use hsr_scenario::Order;
 use hsr_table_demand::most_of;
 use hsr_text::{put, put_hex, put_number, put_octets};
@@ -587,6 +588,42 @@ fn put_title(text: &mut Vec<u8>, title: &Option<String>) -> Result<(), NoMemory>
     }
 }
 
+/// Puts when nodes judge what comes by wires last.
+fn put_switching(text: &mut Vec<u8>, switching: Switching) -> Result<(), NoMemory>
+    ensures { OnOk result (text.new.items ≡ text.old.items ++ switching_text switching) }
+{
+    match switching {
+        Switching::Store => put(text, "store"),
+        Switching::Cut => put(text, "cut"),
+    }
+}
+
+/// Puts wires last.
+#[tactic(auto, unfolding(crate::specs::Spelled::wire_text))]
+fn put_wire(text: &mut Vec<u8>, wire: Wire) -> Result<(), NoMemory>
+    ensures { OnOk result (text.new.items ≡ text.old.items ++ wire_text wire) }
+{
+    put(text, "wire ")?;
+    put_number(text, wire.rate)?;
+    put(text, " Mbit/s, ")?;
+    put_number(text, wire.residence)?;
+    put(text, " us, ")?;
+    put_switching(text, wire.switching)
+}
+
+/// Puts how long copies take last.
+fn put_pace(text: &mut Vec<u8>, transfer: Transfer) -> Result<(), NoMemory>
+    ensures { OnOk result (text.new.items ≡ text.old.items ++ transfer_text transfer) }
+{
+    match transfer {
+        Transfer::Hop(us) => {
+            put(text, "hop_us = ")?;
+            put_number(text, us)
+        }
+        Transfer::Wire(wire) => put_wire(text, wire),
+    }
+}
+
 /// Puts how copies move last.
 fn put_moves(text: &mut Vec<u8>, moves: Moves) -> Result<(), NoMemory>
     ensures { OnOk result (text.new.items ≡ text.old.items ++ moves_text moves) }
@@ -594,10 +631,7 @@ fn put_moves(text: &mut Vec<u8>, moves: Moves) -> Result<(), NoMemory>
     match moves {
         Moves::EachSendDrains => put(text, "each send drains"),
         Moves::EachMomentDrains => put(text, "each moment drains"),
-        Moves::Hop(us) => {
-            put(text, "hop_us = ")?;
-            put_number(text, us)
-        }
+        Moves::Timed(transfer) => put_pace(text, transfer),
     }
 }
 
@@ -684,6 +718,51 @@ fn put_summary(
     put_counts(text, nodes, links, sends.as_slice(), moves)
 }
 
+/// Puts a number between words last.
+fn put_between(
+    text: &mut Vec<u8>,
+    before: &str,
+    number: usize,
+    behind: &str,
+) -> Result<(), NoMemory>
+    ensures { OnOk result (text.new.items ≡ text.old.items
+        ++ (before.now ++ decimal number ++ behind.now)) }
+{
+    put(text, before)?;
+    put_number(text, number as u64)?;
+    put(text, behind)
+}
+
+/// Puts last how many sends may be under way at once, where no capacity is said, and they are more than the largest holds.
+fn put_crowd(text: &mut Vec<u8>, said: Option<usize>, sends: usize) -> Result<(), NoMemory>
+    ensures { OnOk result (text.new.items ≡ text.old.items ++ crowd_text said sends) }
+{
+    match said {
+        Some(_) => Ok(()),
+        None => {
+            if sends > CAPACITY_LIMIT {
+                put_between(
+                    text,
+                    "  # the most that there is: up to ",
+                    sends,
+                    " sends may be under way at once",
+                )
+            } else {
+                Ok(())
+            }
+        }
+    }
+}
+
+/// Puts what ends the line of the capacity last.
+#[tactic(auto, unfolding(crate::specs::Spelled::room_text))]
+fn put_room(text: &mut Vec<u8>, said: Option<usize>, sends: usize) -> Result<(), NoMemory>
+    ensures { OnOk result (text.new.items ≡ text.old.items ++ room_text said sends) }
+{
+    put_crowd(text, said, sends)?;
+    put(text, "\n")
+}
+
 /// What ends the list of steps.
 const END: &str = "]\n";
 
@@ -699,7 +778,7 @@ fn begun(alloc: Global, outline: &Outline, meaning: &Meaning) -> Result<Vec<u8>,
     // Plans tell microseconds, and a scenario without a unit would mean milliseconds.
     put(&mut text, "unit = \"us\"\ncapacity = ")?;
     put_number(&mut text, meaning.capacity as u64)?;
-    put(&mut text, "\n")?;
+    put_room(&mut text, outline.capacity, meaning.at_once)?;
     put_nodes(&mut text, nodes)?;
     put_links(&mut text, nodes, meaning.topology.links())?;
     put(&mut text, "step = [\n")?;

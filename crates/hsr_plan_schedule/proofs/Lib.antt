@@ -6,3 +6,4 @@ pub mod Moments
 pub mod Running
 pub mod Telling
 pub mod Names
+pub mod Young

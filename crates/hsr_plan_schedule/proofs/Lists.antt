@@ -18,7 +18,7 @@ use Rattle.hsr_plan_network.specs.Checks.{each_passes, unless_held}
 use Rattle.hsr_plan_schedule.specs.Changes.{each_felt, idle_key, is_felt, last_before, last_of, later}
 use Rattle.hsr_plan_schedule.specs.declared.changes.Last.{Last}
 use Rattle.hsr_plan_schedule.specs.declared.occasion.Happening.{Happening}
-use Rattle.hsr_plan_schedule.specs.Senders.{source, sources}
+use Rattle.hsr_plan_schedule.specs.Senders.{receives, source, sources}
 use Rattle.hsr_plan_schedule.specs.Events.{event}
 use Rattle.hsr_plan_schedule.specs.Moments.{sends}
 use Rattle.hsr_plan_schedule.specs.Occasions.{events_from, room_behind, sends_from}
@@ -74,6 +74,16 @@ pub felt_fail : (all es : List Occasion) (i : ℕ) (d : Occasion) (e : PlanFault
     → FailsAt e e.what (at_spot (spot.Event i) (unless_held (is_felt (get_or es i d).what (last_before all i (get_or es i d))) (Idle (idle_key (get_or es i d).what)))) → FailsAt e e.what whole
 felt_fail all es i d e whole h same f =
     subst (FailsAt e e.what) (sym (ap (each_felt all i) (drop_more es i d h)) ∙ same) (stays_at e e.what (felt_at all i (get_or es i d)) (λ _. each_felt all (i + 1) (drop (i + 1) es)) f)
+
+-- ---- receivers
+
+pub receives_step : (nodes : List Node) (senders : List Sender) (dst : List ℕ) (xs : List (List ℕ)) (i : ℕ) (d : List ℕ) (u : ⊤) → i < length xs → receives nodes senders dst (get_or xs i d) ≡ Ok u
+    → each_passes (receives nodes senders dst) (drop i xs) ≡ each_passes (receives nodes senders dst) (drop (i + 1) xs)
+receives_step nodes senders dst = passes_step (receives nodes senders dst)
+
+pub receives_fails : (nodes : List Node) (senders : List Sender) (dst : List ℕ) (xs : List (List ℕ)) (i : ℕ) (d : List ℕ) (what : What) (whole : Result ⊤ What) → i < length xs
+    → each_passes (receives nodes senders dst) (drop i xs) ≡ whole → Fails what (receives nodes senders dst (get_or xs i d)) → Fails what whole
+receives_fails nodes senders dst = passes_fails (receives nodes senders dst)
 
 -- ---- payloads that fit
 

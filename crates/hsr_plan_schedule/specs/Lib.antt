@@ -9,4 +9,5 @@ pub mod Naming
 pub mod Payloads
 pub mod Publishing
 pub mod Orders
+pub mod Room
 pub mod Meaning

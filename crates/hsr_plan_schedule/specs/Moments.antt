@@ -12,9 +12,9 @@ use Rattle.hsr_plan_text.specs.declared.fault.Refusal.TheVariants.{Endless, TooL
 use Rattle.hsr_plan_text.specs.declared.plan.Pace.{Pace}
 use Rattle.hsr_plan_text.specs.declared.plan.Pace.TheVariants.{Gaps, Samples}
 use Rattle.hsr_plan_text.specs.declared.plan.SampleRate.{SampleRate}
-use Rattle.hsr_plan_network.specs.Checks.{unless_held}
+use Rattle.hsr_plan_network.specs.Checks.{each_passes, unless_held}
 use Rattle.hsr_plan_network.specs.Nodes.{Node}
-use Rattle.hsr_plan_schedule.specs.Senders.{sources, target}
+use Rattle.hsr_plan_schedule.specs.Senders.{receives, sources, target}
 use Rattle.hsr_plan_schedule.specs.declared.occasion.Happening.TheVariants.{Life, Send}
 use Rattle.hsr_plan_schedule.specs.declared.occasion.Occasion.{Occasion}
 use Rattle.hsr_plan_schedule.specs.declared.occasion.Sender.{Sender}
@@ -135,4 +135,5 @@ starts_in_time until starts = unless_held (list_all (λ start. nat_lt start unti
 -- all frames of a stream, if there is room for them
 abbrev pub sends : List Node → Option ℕ → ℕ → ℕ → Stream → Result (List Occasion) What
 sends nodes until room i stream = target nodes stream.framing.target >>= λ dst. sources nodes dst [] stream.from
-    >>= λ senders. end_of until stream.timing >>= λ until. starts_in_time until stream.timing.starts >>= λ _. in_room room (sent_by i 0 senders stream.timing until dst)
+    >>= λ senders. each_passes (receives nodes senders dst) stream.receivers >>= λ _. end_of until stream.timing
+    >>= λ until. starts_in_time until stream.timing.starts >>= λ _. in_room room (sent_by i 0 senders stream.timing until dst)

@@ -10,7 +10,7 @@ use Rattle.hsr_plan_text.specs.Plan.{Stream}
 use Rattle.hsr_plan_text.specs.declared.plan.Kind.{Kind}
 use Rattle.hsr_plan_text.specs.declared.plan.Kind.TheVariants.{Goose, SampledValues, Number}
 use Rattle.hsr_plan_text.specs.declared.plan.Moves.{Moves}
-use Rattle.hsr_plan_text.specs.declared.plan.Moves.TheVariants.{EachSendDrains, EachMomentDrains, Hop}
+use Rattle.hsr_plan_text.specs.declared.plan.Moves.TheVariants.{EachSendDrains, EachMomentDrains, Timed}
 use Rattle.hsr_plan_schedule.specs.Payloads.{payload}
 use Rattle.hsr_plan_schedule.specs.Hearing.{Heard, has_room, heard_on, interlink_to, knows, macs_behind, nothing_heard, settled}
 use Rattle.hsr_plan_schedule.specs.Setting.{Setting}
@@ -89,7 +89,7 @@ clocked at told = if told.now == at then told else set at (drained told)
 abbrev pub sending : Moves → Order → Told → Told
 sending EachSendDrains order told = drain (record told { orders = told.orders ++ order ∷ [] })
 sending EachMomentDrains order told = record told { sent = true; orders = told.orders ++ order ∷ [] }
-sending (Hop us) order told = record told { orders = told.orders ++ order ∷ [] }
+sending (Timed transfer) order told = record told { orders = told.orders ++ order ∷ [] }
 
 -- ---- stations
 
@@ -114,7 +114,7 @@ hear g sender told = hear_by g (interlink_to g.links sender.node) sender told
 abbrev pub is_to_speak : Moves → Bool → Bool
 is_to_speak EachSendDrains known = known
 is_to_speak EachMomentDrains known = known
-is_to_speak (Hop us) known = true
+is_to_speak (Timed transfer) known = true
 
 -- a RedBox sends supervision about an address
 abbrev pub speak : Setting → ℕ → List ℕ → Told → Told

@@ -1,5 +1,5 @@
 -- Who sends, and to whom.
-use Rattle.std.specs.Prelude.{ℕ, nat_lt, ◌||◌, not, Bool, false, List, [], ◌∷◌, ◌++◌, slice_get, position, Option, Some, None, option_map, Result, Ok, Err, ok_or, if◌then◌else◌}
+use Rattle.std.specs.Prelude.{ℕ, nat_lt, ◌==◌, ◌&&◌, ◌||◌, not, Bool, false, ⊤, List, [], ◌∷◌, ◌++◌, slice_get, position, Option, Some, None, option_map, Result, Ok, Err, ok_or, if◌then◌else◌}
 use Rattle.std.specs.List.{list_any}
 use Rattle.std.specs.Option.{option_or}
 use Rattle.std.specs.Str.{bytes_eq}
@@ -11,11 +11,12 @@ use Rattle.hsr_plan_text.specs.declared.fault.Key.TheVariants as key
 use Rattle.hsr_plan_text.specs.declared.fault.What.{What}
 use Rattle.hsr_plan_text.specs.declared.fault.What.TheVariants.{Refused}
 use Rattle.hsr_plan_text.specs.declared.fault.Refusal.{Refusal}
-use Rattle.hsr_plan_text.specs.declared.fault.Refusal.TheVariants.{NoAddress, NoSuchName, Nobody, ToItself}
+use Rattle.hsr_plan_text.specs.declared.fault.Refusal.TheVariants.{NoAddress, NoSuchName, Nobody, NotDue, ToItself}
 use Rattle.hsr_plan_text.specs.declared.plan.Target.{Target}
 use Rattle.hsr_plan_text.specs.declared.plan.Target.TheVariants.{Named, Address}
 use Rattle.hsr_node.specs.Copies.{ring_address}
 use Rattle.hsr_node.specs.Place.{owns}
+use Rattle.hsr_plan_network.specs.Checks.{unless_held}
 use Rattle.hsr_plan_network.specs.Names.{is_in, number}
 use Rattle.hsr_plan_network.specs.Nodes.{Node}
 use Rattle.hsr_plan_schedule.specs.declared.occasion.Sender.{Sender}
@@ -88,3 +89,13 @@ source nodes dst n = ok_or (sender nodes n) (Refused (nobody nodes n))
 abbrev pub sources : List Node → List ℕ → List Sender → List (List ℕ) → Result (List Sender) What
 sources nodes dst seen [] = Ok seen
 sources nodes dst seen (n ∷ ns) = source nodes dst n >>= λ s. sources nodes dst (seen ++ s ∷ []) ns
+
+-- ---- receivers
+
+-- frames are due at an address: it is the destination, or that is a group's; and somebody else sends them
+abbrev pub is_due_at : List Sender → List ℕ → Sender → Bool
+is_due_at senders dst r = (is_group dst || bytes_eq r.mac dst) && list_any (λ s. not (s.node == r.node)) senders
+
+-- a node or a station of the name, at which frames of these senders are due
+unfoldable pub receives : List Node → List Sender → List ℕ → List ℕ → Result ⊤ What
+receives nodes senders dst n = ok_or (sender nodes n) (Refused (nobody nodes n)) >>= λ r. unless_held (is_due_at senders dst r) (NotDue n)

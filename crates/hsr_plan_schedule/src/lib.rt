@@ -15,6 +15,7 @@
 //! - `naming`: the names of a plan's streams
 //! - `publishing`: by what receivers know the streams of a plan
 //! - `orders`: the orders of a scenario that tell what happens in a plan
+//! - `room`: how many copies may wait in each direction of a link
 //! - `meaning`: what a plan means
 #![tactic(auto)]
 
@@ -30,6 +31,7 @@ mod orders;
 mod payloads;
 mod publication;
 mod publishing;
+mod room;
 mod senders;
 mod sends;
 mod setting;

@@ -3,7 +3,7 @@ ghost use Rattle.std.specs.Prelude.{◌≡◌, IfOk, IfErr, OnOk};
 ghost use Rattle.hsr_plan_text.specs.Fallible.{FailsAt, GivesAt, at_spot};
 ghost use Rattle.hsr_plan_text.specs.declared.fault.Spot.TheVariants as spot;
 ghost use Rattle.hsr_plan_network.specs.Wiring.{wired};
-ghost use Rattle.hsr_plan_schedule.specs.Meaning.{AreInOrder, Means, Tells, listed, setting};
+ghost use Rattle.hsr_plan_schedule.specs.Meaning.{AreInOrder, Means, Tells, listed, open_by, setting};
 ghost use Rattle.hsr_plan_schedule.specs.Orders.{told_of};
 ghost use Rattle.hsr_plan_text.specs.declared.fault.What.TheVariants.{NoMemory as NoRoom};
 
@@ -13,21 +13,24 @@ use crate::occasions::{at_spot, occasions};
 use crate::orders::{Told, told_of};
 use crate::publication::Publication;
 use crate::publishing::publications;
+use crate::room::{ROOM_LIMIT, age_limit, most_open, room};
 use crate::setting::Setting;
 use hsr_frame::NoMemory;
 use hsr_plan_network::{Node, Wired, wire};
-use hsr_plan_text::{Plan, PlanFault, Spot, What, Word};
+use hsr_plan_text::{Outline, Plan, PlanFault, Spot, What, Word};
 use hsr_scenario::Order;
 use hsr_topology::Topology;
 use std::alloc::Global;
 use std::marker::Model;
 
-/// What a plan means: its nodes with their names, the topology, how many copies wait in each direction of a link, and the orders; the
-/// names of the plan's streams, and of each frame that the orders send, in their order, the number of its stream.
+/// What a plan means: its nodes with their names, the topology, the most sends that may be under way at once, how many copies wait in each
+/// direction of a link, and the orders; the names of the plan's streams, and of each frame that the orders send, in their order, the number
+/// of its stream.
 #[derive(Debug, Drop)]
 pub struct Meaning {
     pub nodes: Vec<Node>,
     pub topology: Topology,
+    pub at_once: usize,
     pub capacity: usize,
     pub orders: Vec<Order>,
     pub streams: Vec<Word>,
@@ -39,7 +42,7 @@ impl Model for Meaning {
 
     ghost Value = { Meaning };
 
-    ghost view = { λ m. record { nodes = m.nodes.items; topology = m.topology; capacity = m.capacity; orders = m.orders.items; streams = m.streams.items; sends = m.sends.items } };
+    ghost view = { λ m. record { nodes = m.nodes.items; topology = m.topology; at_once = m.at_once; capacity = m.capacity; orders = m.orders.items; streams = m.streams.items; sends = m.sends.items } };
 }
 
 /// Sorts occasions by their moments.
@@ -102,7 +105,8 @@ fn told_of_plan(
 {
     let setting = Setting {
         moves: plan.outline.moves,
-        capacity: plan.outline.capacity,
+        // As much as there can be: so many copies wait there that all come, where no more is needed.
+        capacity: plan.outline.capacity.unwrap_or(ROOM_LIMIT),
         nodes: wired.nodes.as_slice(),
         links: wired.topology.links(),
         streams: plan.streams.as_slice(),
@@ -110,6 +114,19 @@ fn told_of_plan(
         epoch: plan.outline.epoch,
     };
     told_of(alloc, &setting, occasions)
+}
+
+/// The most sends of orders that may be under way at once, by a plan's own moves on its links.
+fn open_by(
+    alloc: Global,
+    outline: &Outline,
+    topology: &Topology,
+    orders: &[Order],
+) -> Result<usize, NoMemory>
+    ensures { IfOk result (λ most. most ≡ open_by outline.now topology.now orders.now) }
+{
+    let limit = age_limit(outline.moves, topology.links())?;
+    most_open(alloc, limit, orders)
 }
 
 /// The orders that tell what is listed in a plan, in order.
@@ -129,10 +146,17 @@ fn told_in_order(alloc: Global, plan: &Plan, listed: Listed) -> Result<Meaning, 
         publications.as_slice(),
         occasions.as_slice(),
     )?;
+    let at_once = open_by(
+        alloc,
+        &plan.outline,
+        &wired.topology,
+        told.orders.as_slice(),
+    )?;
     Ok(Meaning {
         nodes: wired.nodes,
         topology: wired.topology,
-        capacity: plan.outline.capacity,
+        at_once,
+        capacity: room(plan.outline.capacity, at_once),
         orders: told.orders,
         streams,
         sends: told.sends,
@@ -149,7 +173,8 @@ fn no_memory() -> PlanFault
     }
 }
 
-/// What a plan means. At one moment come events as they are listed, then the supervision of all DANHs and RedBoxes in their order, each
+/// What a plan means. Where it doesn't say how many copies wait in each direction of a link, as many do as sends may be under way at once, at
+/// least 64 and at most 4096. At one moment come events as they are listed, then the supervision of all DANHs and RedBoxes in their order, each
 /// RedBox also about the stations behind it that it knows then, then the frames of streams as they are listed. What is off sends
 /// nothing, and its links are down. Where copies move by hops, the orders have no moves of copies yet, and supervision about all
 /// stations. A fault is the first in this order: the nodes and links, the events, the supervision, over 2^20 of these, the streams,

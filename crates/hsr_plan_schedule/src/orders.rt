@@ -139,7 +139,7 @@ fn is_to_speak(moves: Moves, is_known: bool) -> bool
     match moves {
         Moves::EachSendDrains | Moves::EachMomentDrains => is_known,
         // By hops it isn't known yet what has come: each station is tried when the run is played.
-        Moves::Hop(_) => true,
+        Moves::Timed(_) => true,
     }
 }
 
@@ -304,7 +304,7 @@ impl Told {
             Moves::EachSendDrains => self.drain()?,
             Moves::EachMomentDrains => self.sent = true,
             // Copies are moved later, when the run is played.
-            Moves::Hop(_) => {}
+            Moves::Timed(_) => {}
         }
         Ok(())
     }

@@ -1,10 +1,12 @@
-//! Who sends, and to whom.
-ghost use Rattle.std.specs.Prelude.{◌≡◌, [], Err, position, slice_get};
+//! Who sends, to whom, and who needs it.
+ghost use Rattle.std.specs.List.{list_any};
+ghost use Rattle.std.specs.Prelude.{◌≡◌, [], Err, position, slice_get, ◌==◌, not};
 ghost use Rattle.hsr_plan_text.specs.Fallible.{Gives};
 ghost use Rattle.hsr_plan_text.specs.declared.fault.What.TheVariants.{Refused};
 ghost use Rattle.hsr_plan_text.specs.declared.fault.Refusal.TheVariants.{NoSuchName};
+ghost use Rattle.hsr_plan_network.specs.Checks.{each_passes};
 ghost use Rattle.hsr_plan_network.specs.Names.{is_in};
-ghost use Rattle.hsr_plan_schedule.specs.Senders.{as_node, as_station, is_own, is_somebody, named, nobody, own_sender, sender, some_has, source, sources, station_mac, station_sender, target};
+ghost use Rattle.hsr_plan_schedule.specs.Senders.{as_node, as_station, is_due_at, is_own, is_somebody, named, nobody, own_sender, receives, sender, some_has, source, sources, station_mac, station_sender, target};
 
 use crate::occasion::Sender;
 use hsr_frame::Mac;
@@ -214,4 +216,63 @@ pub(crate) fn sources(
         }
     }
     Ok(senders)
+}
+
+// ---- receivers
+
+/// Whether a node other than this one is among the senders.
+fn has_other(senders: &[Sender], node: usize) -> bool
+    ensures { result ≡ list_any (λ s. not (s.node == node)) senders.now }
+{
+    senders.iter().any(|sender| sender.node != node)
+}
+
+/// Whether frames to that destination are due at an address of a node: it is the destination, or that is a group's; and
+/// another node is among the senders.
+fn is_due_at(senders: &[Sender], dst: Mac, receiver: Sender) -> bool
+    ensures { result ≡ is_due_at senders.now dst receiver }
+{
+    (dst.is_group() || receiver.mac == dst) && has_other(senders, receiver.node)
+}
+
+/// Refuses a name of nobody, or of who isn't due the frames of these senders.
+#[tactic(auto, unfolding(crate::specs::Senders::receives))]
+fn check_receiver(
+    alloc: Global,
+    nodes: &[Node],
+    senders: &[Sender],
+    dst: Mac,
+    name: &Word,
+) -> Result<(), What>
+    ensures { Gives (λ u. u) result (receives nodes.now senders.now dst name.now) }
+{
+    let Some(receiver) = sender(nodes, name.as_bytes()) else {
+        return no_sender(alloc, nodes, name.as_bytes());
+    };
+    if is_due_at(senders, dst, receiver) {
+        return Ok(());
+    }
+    let name = name.copy(alloc)?;
+    Err(What::Refused(Refusal::NotDue(name)))
+}
+
+/// Refuses names of which one is nobody's, or isn't due the frames of these senders.
+#[tactic(auto, using(crate::proofs::Lists::receives_step, crate::proofs::Lists::receives_fails))]
+pub(crate) fn check_receivers(
+    alloc: Global,
+    nodes: &[Node],
+    senders: &[Sender],
+    dst: Mac,
+    names: &[Word],
+) -> Result<(), What>
+    ensures { Gives (λ u. u) result (each_passes
+        (receives nodes.now senders.now dst) names.now) }
+{
+    for name in names.iter() {
+        match check_receiver(alloc, nodes, senders, dst, name) {
+            Ok(()) => {}
+            Err(what) => return Err(what),
+        }
+    }
+    Ok(())
 }

@@ -10,7 +10,7 @@ ghost use Rattle.hsr_plan_text.specs.declared.fault.Key.TheVariants as key;
 ghost use Rattle.hsr_plan_text.specs.declared.fault.Refusal.TheVariants.{TooMany as IsTooMany};
 
 use crate::occasion::{Happening, Occasion, Sender, Sent};
-use crate::senders::{sources, target};
+use crate::senders::{check_receivers, sources, target};
 use hsr_frame::{Mac, NoMemory};
 use hsr_plan_network::Node;
 use hsr_plan_text::{Key, Pace, Refusal, SampleRate, Stream, Timing, What};
@@ -373,6 +373,7 @@ pub(crate) fn sends(
     let dst = target(alloc, nodes, &stream.framing.target)?;
     let senders = sources(alloc, nodes, dst, stream.from.as_slice())?;
     let senders = senders.as_slice();
+    check_receivers(alloc, nodes, senders, dst, stream.receivers.as_slice())?;
     let until = end_of(until, &stream.timing)?;
     starts_in_time(until, stream.timing.starts.as_slice())?;
     check_room(room, number, senders, &stream.timing, until, dst)?;

@@ -1,4 +1,3 @@
-pub mod Counts
 mod Listing
-mod Uncounted
+mod Plays
 mod Whole

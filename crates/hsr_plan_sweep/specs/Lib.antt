@@ -1,5 +1,10 @@
+pub mod Cases
+pub mod Variants
+pub mod Audience
+pub mod Sendings
 pub mod Counting
-pub mod Sweep
-pub mod Lines
+pub mod Runs
 pub mod Refusals
+pub mod Verdict
+pub mod Lines
 pub mod Swept

@@ -1,15 +1,40 @@
 -- The lines of a sweep.
-use Rattle.std.specs.Prelude.{ℕ, ◌+◌, max, List, [], ◌∷◌, ◌++◌, codes, slice_get, Option, Some, None}
+use Rattle.std.specs.Prelude.{ℕ, if◌then◌else◌, nat_lt, List, [], ◌∷◌, ◌++◌, codes, slice_get, Option, Some, None}
 use Rattle.std.specs.Fmt.{decimal}
-use Rattle.hsr_node.specs.Words.{letter}
+use Rattle.std.specs.List.{flat_map}
 use Rattle.hsr_topology.specs.declared.end.End.{End}
+use Rattle.hsr_faults.specs.declared.fault.Off.{Off as Piece}
+use Rattle.hsr_faults.specs.declared.fault.Off.TheVariants as piece
+use Rattle.hsr_naming.specs.declared.naming.Naming.{Naming}
 use Rattle.hsr_plan_network.specs.Nodes.{Node}
-use Rattle.hsr_naming.specs.declared.naming.Naming.TheVariants.{Numbers}
-use Rattle.hsr_report.specs.Report.{finding_line}
-use Rattle.hsr_plan_sweep.specs.Sweep.{Sweep}
+use Rattle.hsr_plan_outages.specs.Lines.{fault_text}
+use Rattle.hsr_plan_outages.specs.Names.{end_text, node_name}
+use Rattle.hsr_audit.specs.declared.doubt.Doubt.TheVariants.{CutOff}
+use Rattle.hsr_report.specs.Report.{finding_line, spending_text}
+use Rattle.hsr_report.specs.declared.finding.Finding.{Finding}
+use Rattle.hsr_report.specs.declared.finding.Finding.TheVariants as finding
+use Rattle.hsr_plan_sweep.specs.Verdict.{most_needed, points, worst_spent}
+use Rattle.hsr_plan_sweep.specs.declared.asked.Asked.{Asked}
+use Rattle.hsr_plan_sweep.specs.declared.asked.Part.{Part}
+use Rattle.hsr_plan_sweep.specs.declared.cases.Case.{Case}
+use Rattle.hsr_plan_sweep.specs.declared.cases.Case.TheVariants.{Undisturbed, Off}
 use Rattle.hsr_plan_sweep.specs.declared.counting.Count.{Count}
+use Rattle.hsr_plan_sweep.specs.declared.counting.Miss.{Miss}
+use Rattle.hsr_plan_sweep.specs.declared.playing.Played.{Played}
 
--- ---- what a run is counted as, behind what was off
+-- what lines call things by, and the limits that were asked for
+pub record Words : Type 0 where
+  pub nodes : List Node
+  pub links : List (List End)
+  pub naming : Naming
+  pub asked : Asked
+
+-- ---- a run
+
+-- what was off
+abbrev pub case_text : Words → Case → List ℕ
+case_text w Undisturbed = codes "undisturbed"
+case_text w (Off fault) = fault_text w.nodes w.links fault
 
 -- how many sends it had, and what became of them
 unfoldable pub sends_text : Count → List ℕ
@@ -17,60 +42,83 @@ sends_text count =
     codes " sends " ++ decimal count.sends ++ codes " complete " ++ decimal count.complete ++ codes " missed " ++ decimal count.missed
     ++ codes " twice " ++ decimal count.twice
 
--- and how many table entries it needed, and what the audit of networks found, in the words of a report
-abbrev pub count_text : Count → List ℕ
-count_text count = sends_text count ++ codes " needed " ++ decimal count.needed ++ codes " " ++ finding_line Numbers count.finding
+-- how many entries it needed, and what it spent of its tables
+unfoldable pub tables_text : Words → Count → List ℕ
+tables_text w count = codes " needed " ++ decimal count.needed ++ codes " budget " ++ spending_text w.naming count.spending
 
--- ---- what was off
+-- the limit that a number is over, if it is
+abbrev pub over_text : Option ℕ → ℕ → List ℕ
+over_text None n = []
+over_text (Some limit) n = if nat_lt limit n then codes " over " ++ decimal limit else []
 
-abbrev pub name_text : Option Node → List ℕ
-name_text None = codes " "
-name_text (Some node) = codes " " ++ node.name
+abbrev pub limited_text : List ℕ → Option ℕ → ℕ → List ℕ
+limited_text name limit n = name ++ decimal n ++ over_text limit n
 
-abbrev pub letter_if : Option Node → ℕ → ℕ
-letter_if None port = 63
-letter_if (Some node) port = letter node.place port
+unfoldable pub limits_text : Words → Count → List ℕ
+limits_text w count = limited_text (codes " latency ") w.asked.limit_latency count.latency ++ limited_text (codes " load ") w.asked.limit_load count.load
 
-unfoldable pub end_text : List Node → End → List ℕ
-end_text nodes end = name_text (slice_get nodes end.node) ++ codes "." ++ letter_if (slice_get nodes end.node) end.port ∷ []
+-- the first send that was missed, as a doubt
+abbrev pub first_text : Words → Option Miss → List ℕ
+first_text w None = codes "none missed\n"
+first_text w (Some miss) = finding_line w.naming (finding.Doubt (CutOff miss.send.node miss.send.place miss.node))
 
-abbrev pub ends_text : List Node → List End → List ℕ
-ends_text nodes (a ∷ b ∷ []) = end_text nodes a ++ end_text nodes b
-ends_text nodes _ = []
+-- The audit of networks asks for nodes that are off too, and for those whom no stream is for. Where it finds that a send doesn't come to one
+-- of all these, the first is told that was missed by one that needs it.
+abbrev pub found_if : Words → Option Miss → Finding → List ℕ
+found_if w first (finding.Doubt (CutOff k place receiver)) = first_text w first
+found_if w first found = finding_line w.naming found
 
-unfoldable pub link_head : List Node → ℕ → List End → List ℕ
-link_head nodes l link = codes "link " ++ decimal l ++ ends_text nodes link
+abbrev pub found_text : Words → Count → List ℕ
+found_text w count = found_if w count.first count.finding
 
-unfoldable pub node_head : List Node → ℕ → List ℕ
-node_head nodes k = codes "node " ++ decimal k ++ name_text (slice_get nodes k)
+-- and what was found, in the words of a report
+unfoldable pub play_text : Words → Count → List ℕ
+play_text w count = sends_text count ++ tables_text w count ++ limits_text w count ++ codes " " ++ found_text w count
 
--- the rest of the line of something that was off
-abbrev pub counted : Option Count → List ℕ
-counted None = []
-counted (Some count) = count_text count
+abbrev pub play_line : Words → Played → List ℕ
+play_line w played = case_text w played.case ++ play_text w played.count
 
--- the lines of the links from the l-th on, and of the nodes from the k-th on
-abbrev pub link_lines : List Node → List Count → ℕ → List (List End) → List ℕ
-link_lines nodes counts l [] = []
-link_lines nodes counts l (link ∷ links) = (link_head nodes l link ++ counted (slice_get counts l)) ++ link_lines nodes counts (l + 1) links
+-- ---- single points of failure
 
-abbrev pub node_lines : List Node → ℕ → List Count → List ℕ
-node_lines nodes k [] = []
-node_lines nodes k (count ∷ counts) = (node_head nodes k ++ count_text count) ++ node_lines nodes (k + 1) counts
+-- a link by its ends: qb1.C-bcu3.A
+abbrev pub dashed : List Node → List End → List ℕ
+dashed nodes (a ∷ b ∷ []) = end_text nodes a ++ codes "-" ++ end_text nodes b
+dashed nodes _ = []
+
+abbrev pub dashed_if : List Node → Option (List End) → List ℕ
+dashed_if nodes None = []
+dashed_if nodes (Some link) = dashed nodes link
+
+abbrev pub point_text : Words → Piece → List ℕ
+point_text w (piece.Link l) = dashed_if w.nodes (slice_get w.links l)
+point_text w (piece.Node k) = node_name w.nodes k
+
+abbrev pub next_point : Words → Piece → List ℕ
+next_point w off = codes ", " ++ point_text w off
+
+unfoldable pub some_points : Words → Piece → List Piece → List ℕ
+some_points w first others = codes "single points of failure: " ++ point_text w first ++ flat_map (next_point w) others ++ codes "\n"
+
+abbrev pub points_text : Words → List Piece → List ℕ
+points_text w [] = codes "no single point of failure\n"
+points_text w (first ∷ others) = some_points w first others
 
 -- ---- all
 
--- the most entries that one of these runs needed, and `least` at least
-abbrev pub most_needed : List Count → ℕ → ℕ
-most_needed [] least = least
-most_needed (count ∷ counts) least = most_needed counts (max least count.needed)
+-- how many entries are enough for all runs, and the worst that one spent of its tables
+unfoldable pub enough_text : Words → List Played → List ℕ
+enough_text w plays = codes "needed " ++ decimal (most_needed plays) ++ codes "\nbudget " ++ spending_text w.naming (worst_spent plays) ++ codes "\n"
 
--- how many entries are enough for all runs
-abbrev pub enough : Sweep → ℕ
-enough sweep = most_needed sweep.nodes (most_needed sweep.links sweep.undisturbed.needed)
+abbrev pub all_text : Words → List Played → List ℕ
+all_text w plays = points_text w (points plays) ++ enough_text w plays
 
--- each link, each node, the undisturbed run, and how many entries are enough
-unfoldable pub sweep_text : Sweep → List ℕ
-sweep_text sweep =
-    link_lines sweep.wired.nodes sweep.links 0 sweep.wired.topology.links ++ node_lines sweep.wired.nodes 0 sweep.nodes
-    ++ codes "undisturbed" ++ count_text sweep.undisturbed ++ codes "needed " ++ decimal (enough sweep) ++ codes "\n"
+-- only a whole sweep tells what holds of all
+abbrev pub last_if : Option Part → Words → List Played → List ℕ
+last_if None w plays = all_text w plays
+last_if (Some part) w plays = []
+
+abbrev pub last_text : Words → List Played → List ℕ
+last_text w plays = last_if w.asked.part w plays
+
+abbrev pub sweep_text : Words → List Played → List ℕ
+sweep_text w plays = flat_map (play_line w) plays ++ last_text w plays

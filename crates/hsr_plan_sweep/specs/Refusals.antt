@@ -1,39 +1,25 @@
 -- Why a plan isn't swept.
---     HasNoRun       what is meant leads to no finished run
---     IsUncounted    nothing is counted of a plan
---     IsUnswept      nothing is counted of a plan, or of one in which a link or a node is off
---     IsUnsweptFrom  a moment is behind the end of a plan, or nothing is counted so
---     IsUnsweepable  nothing is counted of what octets say as a plan
-use Rattle.std.specs.Prelude.{ℕ, ◌≡◌, ◌⊎◌, ◌<◌, nat_lt, Bool, true, false, ⊤, List, length, Option, Some, None, Result, Ok, Err}
+--     IsUncounted      nothing is counted of a plan
+--     IsUnplayedAmong  nothing is counted of one of these cases
+--     IsUnswept        a moment is behind the end of a plan, or the plan means nothing, or nothing is counted of one of its cases
+--     IsUnsweepable    octets are no plan, or one that isn't swept
+use Rattle.std.specs.Prelude.{ℕ, ◌≡◌, ◌⊎◌, nat_lt, Bool, true, false, ⊤, List, length, Contains, Option, Some, None, Result, Ok, Err}
 use Rattle.std.specs.Str.{IsUtf8}
-use Rattle.hsr_topology.specs.declared.end.End.{End}
-use Rattle.hsr_ring.specs.Finishing.{IsUnfinishedBy}
-use Rattle.hsr_ring.specs.declared.finishing.Unfinished.{Unfinished}
-use Rattle.hsr_ring.specs.declared.finishing.Unfinished.TheVariants as unfinished
 use Rattle.hsr_plan_text.specs.Meaning.{plan_of}
 use Rattle.hsr_plan_text.specs.Plan.{Plan}
 use Rattle.hsr_plan_text.specs.declared.fault.PlanFault.{PlanFault}
-use Rattle.hsr_plan_network.specs.Nodes.{Node}
-use Rattle.hsr_plan_network.specs.Wiring.{Wired, wired}
-use Rattle.hsr_plan_schedule.specs.Meaning.{Meaning}
-use Rattle.hsr_plan_hops.specs.Moving.{MeansMoved}
-use Rattle.hsr_plan_hops.specs.Refusing.{IsImmovable}
+use Rattle.hsr_plan_schedule.specs.Meaning.{Meaning, Means}
 use Rattle.hsr_plan_scenario.specs.Refusals.{MeansNothing}
 use Rattle.hsr_plan_scenario.specs.Refusals as plans
-use Rattle.hsr_plan_sweep.specs.Sweep.{without_link, without_node}
+use Rattle.hsr_plan_scenario.specs.Runs.{IsUnrunOf}
+use Rattle.hsr_plan_sweep.specs.Cases.{cases_of}
+use Rattle.hsr_plan_sweep.specs.Runs.{IfSays, IsPlayed}
+use Rattle.hsr_plan_sweep.specs.Variants.{Ground, varied}
+use Rattle.hsr_plan_sweep.specs.declared.asked.Asked.{Asked}
+use Rattle.hsr_plan_sweep.specs.declared.cases.Case.{Case}
+use Rattle.hsr_plan_sweep.specs.declared.playing.Played.{Played}
 use Rattle.hsr_plan_sweep.specs.declared.running.Trouble.{Trouble}
 use Rattle.hsr_plan_sweep.specs.declared.running.Trouble.TheVariants.{Plan as Unplanned, Run, Memory}
-
--- ---- runs
-
--- it isn't that an allocation failed
-abbrev pub IsKnownRun : Unfinished → Type 0
-IsKnownRun unfinished.Memory = ⊥
-IsKnownRun fault = ⊤
-
--- with tables of 512 entries an order is refused, or a drain doesn't end, or the world that all orders lead to isn't closed
-abbrev pub HasNoRun : Meaning → Type 0
-HasNoRun m = (fault : Unfinished) × IsKnownRun fault × IsUnfinishedBy 512 m.topology m.capacity m.orders fault
 
 -- ---- plans
 
@@ -42,40 +28,48 @@ IsKnown (Unplanned trouble) = plans.IsKnown trouble
 IsKnown (Run fault) = ⊤
 IsKnown Memory = ⊥
 
--- it means nothing; or what it means can't be moved by hops; or what it means leads to no finished run
+-- with tables of 512 entries it has no run
 pub record IsUncounted (plan : Plan) : Type 0 where
-  pub why : MeansNothing plan ⊎ (IsImmovable 512 plan ⊎ ((m : Meaning) × MeansMoved 512 plan m × HasNoRun m))
+  pub why : IsUnrunOf 512 plan
 
--- so it is where one of these links is off from a moment on, or one of these nodes
-abbrev pub IsUncountedWithoutLink : Plan → ℕ → List Node → List (List End) → Type 0
-IsUncountedWithoutLink plan at nodes links = (l : ℕ) × (l < length links) × IsUncounted (without_link plan at nodes links l)
+-- so it is with what is off in a case
+abbrev pub IsUnplayed : Result Plan PlanFault → Ground → Case → Type 0
+IsUnplayed said g case = IfSays said (λ plan. IsUncounted (varied g case plan))
 
-abbrev pub IsUncountedWithoutNode : Plan → ℕ → List Node → Type 0
-IsUncountedWithoutNode plan at nodes = (d : Node) × ((k : ℕ) × (k < length nodes) × IsUncounted (without_node plan at nodes d k))
+abbrev pub IsUnplayedAmong : Result Plan PlanFault → Ground → List Case → Type 0
+IsUnplayedAmong said g cases = (case : Case) × Contains cases case × IsUnplayed said g case
 
--- so it is with the plan itself, or where a link or a node of its topology is off from a moment on
-pub record IsUncountedOff (plan : Plan) (at : ℕ) : Type 0 where
-  pub topology : Wired
-  pub is : wired plan.outline.network ≡ Ok topology
-  pub off : IsUncountedWithoutLink plan at topology.nodes topology.topology.links ⊎ IsUncountedWithoutNode plan at topology.nodes
+-- a case is counted, or this is why not
+abbrev pub TellsCase : Result Plan PlanFault → Ground → Case → Result Played Trouble → Type 0
+TellsCase said g case (Ok played) = IsPlayed said g case played
+TellsCase said g case (Err trouble) = IsKnown trouble → IsUnplayed said g case
 
-abbrev pub IsUnswept : Plan → ℕ → Type 0
-IsUnswept plan at = IsUncounted plan ⊎ IsUncountedOff plan at
+-- ---- sweeps
 
 -- a moment is behind the end, where there is one
 abbrev pub is_behind : Option ℕ → ℕ → Bool
 is_behind None at = false
 is_behind (Some until) at = nat_lt until at
 
-abbrev pub IsUnsweptFrom : Plan → ℕ → Type 0
-IsUnsweptFrom plan at = (is_behind plan.outline.until at ≡ true) ⊎ IsUnswept plan at
+-- among the nodes and links of what is meant
+abbrev pub ground : ℕ → Meaning → Ground
+ground at m = record { at = at; nodes = m.nodes; links = m.topology.links }
+
+-- all cases that are asked for of what is meant
+abbrev pub cases_in : Asked → Meaning → List Case
+cases_in asked m = cases_of asked (length m.topology.links) (length m.topology.places)
+
+-- a moment is behind the end of a plan; or the plan means nothing; or nothing is counted of one of its cases
+abbrev pub IsUnswept : Plan → Asked → Type 0
+IsUnswept plan asked =
+    (is_behind plan.outline.until asked.at ≡ true) ⊎ (MeansNothing plan ⊎ ((m : Meaning) × Means plan m × IsUnplayedAmong (Ok plan) (ground asked.at m) (cases_in asked m)))
 
 -- ---- texts
 
-abbrev pub IsUnsweptIf : Result Plan PlanFault → ℕ → Type 0
-IsUnsweptIf (Ok plan) at = IsUnsweptFrom plan at
-IsUnsweptIf (Err fault) at = ⊤
+abbrev pub IsUnsweptIf : Result Plan PlanFault → Asked → Type 0
+IsUnsweptIf (Ok plan) asked = IsUnswept plan asked
+IsUnsweptIf (Err fault) asked = ⊤
 
 -- octets are no text; or one that is no plan, or a plan that isn't swept
-abbrev pub IsUnsweepable : List ℕ → ℕ → Type 0
-IsUnsweepable octets at = (¬ IsUtf8 octets) ⊎ IsUnsweptIf (plan_of octets) at
+abbrev pub IsUnsweepable : List ℕ → Asked → Type 0
+IsUnsweepable octets asked = (¬ IsUtf8 octets) ⊎ IsUnsweptIf (plan_of octets) asked

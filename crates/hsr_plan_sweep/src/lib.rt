@@ -1,24 +1,32 @@
-//! What becomes of a plan where each link and each node, one by one, is off from a moment on.
+//! What becomes of a plan where each link and each node, one by one or two at a time, is off from a moment on.
 //!
 //! Its modules, in the order in which to read them:
+//! - `asked`: what is asked of a sweep
+//! - `cases`: what is off in turn
+//! - `variants`: a plan in which that is off
+//! - `audience`: at whom a send is due
+//! - `sendings`: of which stream each send of a run is
 //! - `counting`: what is counted of a finished run
 //! - `running`: a plan's run, counted
-//! - `variants`: what is off in turn, each link and each node
+//! - `playing`: the runs of all cases, several at a time
 //! - `progress`: how far a sweep is, as a terminal shows it
-//! - `sweep`: the sweep of a plan, its call
+//! - `verdict`: whether something is in doubt, and the single points of failure
 //! - `lines`: the lines of a sweep
 //! - `sweeping`: the sweep over a reader and two writers, its call
 #![tactic(auto)]
 
+mod asked;
+mod audience;
+mod cases;
 mod counting;
 mod lines;
+mod playing;
 mod progress;
 mod running;
-mod sweep;
+mod sendings;
 mod sweeping;
 mod variants;
+mod verdict;
 
-pub use counting::Count;
-pub use running::Trouble;
-pub use sweep::{Sweep, sweep_plan};
+pub use asked::{Asked, Part};
 pub use sweeping::sweep_run;

@@ -1,18 +1,55 @@
 //! The lines of a sweep.
-ghost use Rattle.std.specs.Prelude.{◌≡◌, ◌++◌, slice_get, IfOk, OnOk};
-ghost use Rattle.hsr_plan_sweep.specs.Lines.{count_text, counted, end_text, ends_text, letter_if, link_head, link_lines, most_needed, name_text, node_head, node_lines, sends_text, sweep_text};
+ghost use Rattle.std.specs.Prelude.{◌≡◌, ◌++◌, codes, slice_get, IfOk, OnOk};
+ghost use Rattle.std.specs.List.{flat_map};
+ghost use Rattle.hsr_plan_sweep.specs.Lines.{all_text, case_text, dashed, dashed_if, enough_text, first_text, found_text, last_text, limited_text, limits_text, next_point, over_text, play_line, play_text, point_text, points_text, sends_text, some_points, sweep_text, tables_text};
 
-use crate::counting::Count;
-use crate::sweep::Sweep;
+use crate::asked::Asked;
+use crate::cases::Case;
+use crate::counting::{Count, Miss};
+use crate::playing::Played;
+use crate::verdict::{most_needed, points, worst_spent};
+use hsr_audit::Doubt;
+use hsr_faults::Off;
 use hsr_frame::NoMemory;
 use hsr_naming::Naming;
-use hsr_node_text::put_count;
 use hsr_plan_network::Node;
-use hsr_report::put_finding;
+use hsr_plan_outages::{put_end, put_fault, put_node};
+use hsr_report::{Finding, put_finding, put_spent};
+use hsr_text::{put, put_count};
 use hsr_topology::End;
 use std::alloc::Global;
+use std::marker::Model;
 
-/// Puts how many sends a run had, and what became of them.
+/// What lines call things by, and the limits that were asked for.
+#[derive(Drop)]
+pub(crate) struct Words<'a> {
+    pub nodes: &'a [Node],
+    pub links: &'a [[End; 2]],
+    pub naming: &'a Naming,
+    pub asked: Asked,
+}
+
+impl<'a> Model for Words<'a> {
+    ghost use Rattle.hsr_plan_sweep.specs.Lines.{Words};
+
+    ghost Value = { Words };
+
+    ghost view = { λ w. record { nodes = w.nodes.now; links = w.links.now; naming = w.naming.now; asked = w.asked } };
+}
+
+// ---- a run
+
+/// Puts what was off last.
+fn put_case(text: &mut Vec<u8>, words: &Words<'_>, case: Case) -> Result<(), NoMemory>
+    ensures { OnOk result (text.new.items ≡ text.old.items ++ case_text words.now case) }
+{
+    match case {
+        Case::Undisturbed => put(text, "undisturbed"),
+        Case::Off(fault) => put_fault(text, words.nodes, words.links, fault),
+    }
+}
+
+/// Puts how many sends a run had last, and what became of them.
 #[tactic(auto, unfolding(crate::specs::Lines::sends_text))]
 fn put_sends(text: &mut Vec<u8>, count: &Count) -> Result<(), NoMemory>
     ensures { OnOk result (text.new.items ≡ text.old.items ++ sends_text count.now) }
@@ -23,180 +60,242 @@ fn put_sends(text: &mut Vec<u8>, count: &Count) -> Result<(), NoMemory>
     put_count(text, b" twice ", count.twice as u64)
 }
 
-/// Puts a count and the end of its line.
-fn put_counted(text: &mut Vec<u8>, count: &Count) -> Result<(), NoMemory>
-    ensures { OnOk result (text.new.items ≡ text.old.items ++ count_text count.now) }
+/// Puts how many entries a run needed last, and what it spent of its tables.
+#[tactic(auto, unfolding(crate::specs::Lines::tables_text))]
+fn put_tables(text: &mut Vec<u8>, words: &Words<'_>, count: &Count) -> Result<(), NoMemory>
+    ensures { OnOk result (text.new.items ≡ text.old.items ++ tables_text words.now count.now) }
+{
+    put_count(text, b" needed ", count.needed as u64)?;
+    put(text, " budget ")?;
+    put_spent(text, words.naming, count.spending)
+}
+
+/// Puts the limit that a number is over last, if it is.
+fn put_over(text: &mut Vec<u8>, limit: Option<u64>, number: u64) -> Result<(), NoMemory>
+    ensures { OnOk result (text.new.items ≡ text.old.items ++ over_text limit number) }
+{
+    match limit {
+        Some(limit) if limit < number => put_count(text, b" over ", limit),
+        _ => Ok(()),
+    }
+}
+
+/// Puts a number last, and the limit that it is over.
+fn put_limited(
+    text: &mut Vec<u8>,
+    name: &[u8],
+    limit: Option<u64>,
+    number: u64,
+) -> Result<(), NoMemory>
+    ensures { OnOk result (text.new.items ≡ text.old.items ++ limited_text name.now limit number) }
+{
+    put_count(text, name, number)?;
+    put_over(text, limit, number)
+}
+
+/// Puts the longest that a send took last, and the most load.
+#[tactic(auto, unfolding(crate::specs::Lines::limits_text))]
+fn put_limits(text: &mut Vec<u8>, words: &Words<'_>, count: &Count) -> Result<(), NoMemory>
+    ensures { OnOk result (text.new.items ≡ text.old.items ++ limits_text words.now count.now) }
+{
+    put_limited(text, b" latency ", words.asked.limit_latency, count.latency)?;
+    put_limited(text, b" load ", words.asked.limit_load, count.load)
+}
+
+/// Puts the first send that was missed last, as a doubt; or that none was.
+fn put_first(text: &mut Vec<u8>, words: &Words<'_>, first: Option<Miss>) -> Result<(), NoMemory>
+    ensures { OnOk result (text.new.items ≡ text.old.items ++ first_text words.now first) }
+{
+    match first {
+        None => put(text, "none missed\n"),
+        Some(miss) => put_finding(
+            text,
+            words.naming,
+            Finding::Doubt(Doubt::CutOff {
+                node: miss.send.node,
+                place: miss.send.place,
+                receiver: miss.node,
+            }),
+        ),
+    }
+}
+
+/// Puts what was found last. The audit asks for nodes that are off too, and for those whom no stream is for: where it tells of a send that
+/// doesn't come to one, the first is told that was missed.
+fn put_found(text: &mut Vec<u8>, words: &Words<'_>, count: &Count) -> Result<(), NoMemory>
+    ensures { OnOk result (text.new.items ≡ text.old.items ++ found_text words.now count.now) }
+{
+    match count.finding {
+        Finding::Doubt(Doubt::CutOff { .. }) => put_first(text, words, count.first),
+        finding => put_finding(text, words.naming, finding),
+    }
+}
+
+/// Puts what a run is counted as last.
+#[tactic(auto, unfolding(crate::specs::Lines::play_text))]
+fn put_counted(text: &mut Vec<u8>, words: &Words<'_>, count: &Count) -> Result<(), NoMemory>
+    ensures { OnOk result (text.new.items ≡ text.old.items ++ play_text words.now count.now) }
 {
     put_sends(text, count)?;
-    put_count(text, b" needed ", count.needed as u64)?;
-    text.extend_from_slice(b" ")?;
-    put_finding(text, &Naming::Numbers, count.finding)
+    put_tables(text, words, count)?;
+    put_limits(text, words, count)?;
+    put(text, " ")?;
+    put_found(text, words, count)
 }
 
-/// Puts a space and the name of the node of that number.
-fn put_name(text: &mut Vec<u8>, nodes: &[Node], number: usize) -> Result<(), NoMemory>
+/// Puts the line of a run last.
+fn put_line(text: &mut Vec<u8>, words: &Words<'_>, played: &Played) -> Result<(), NoMemory>
+    ensures { OnOk result (text.new.items ≡ text.old.items ++ play_line words.now played.now) }
+{
+    put_case(text, words, played.case)?;
+    put_counted(text, words, &played.count)
+}
+
+/// Puts the lines of runs last.
+#[tactic(auto, using(hsr_frame::proofs::OneMore::grown))]
+fn put_lines(text: &mut Vec<u8>, words: &Words<'_>, plays: &[Played]) -> Result<(), NoMemory>
     ensures { OnOk result (text.new.items ≡ text.old.items
-        ++ name_text (slice_get nodes.now number)) }
+        ++ flat_map (play_line words.now) plays.now) }
 {
-    text.extend_from_slice(b" ")?;
-    match nodes.get(number) {
-        Some(node) => {
-            text.extend_from_slice(node.name.as_bytes())?;
-            Ok(())
-        }
-        None => Ok(()),
+    for played in plays {
+        put_line(text, words, played)?;
     }
-}
-
-/// The letter of a port.
-fn letter_at(nodes: &[Node], end: End) -> u8
-    ensures { result ≡ letter_if (slice_get nodes.now end.node) end.port }
-{
-    match nodes.get(end.node) {
-        Some(node) => node.place.letter(end.port),
-        None => b'?',
-    }
-}
-
-/// Puts a space and an end of a link.
-#[tactic(auto, unfolding(crate::specs::Lines::end_text))]
-fn put_end(text: &mut Vec<u8>, nodes: &[Node], end: End) -> Result<(), NoMemory>
-    ensures { OnOk result (text.new.items ≡ text.old.items ++ end_text nodes.now end) }
-{
-    put_name(text, nodes, end.node)?;
-    text.extend_from_slice(b".")?;
-    text.push(letter_at(nodes, end))?;
     Ok(())
 }
 
-/// Puts the ends of a link.
-fn put_ends(text: &mut Vec<u8>, nodes: &[Node], link: &[End; 2]) -> Result<(), NoMemory>
-    ensures { OnOk result (text.new.items ≡ text.old.items ++ ends_text nodes.now link.now) }
+// ---- single points of failure
+
+/// Puts a link last, as `qb1.C-bcu3.A`.
+fn put_dashed(text: &mut Vec<u8>, nodes: &[Node], link: &[End; 2]) -> Result<(), NoMemory>
+    ensures { OnOk result (text.new.items ≡ text.old.items ++ dashed nodes.now link.now) }
 {
     let [one, other] = *link;
     put_end(text, nodes, one)?;
+    put(text, "-")?;
     put_end(text, nodes, other)
 }
 
-/// Puts what names a link that was off.
-#[tactic(auto, unfolding(crate::specs::Lines::link_head))]
-fn put_link_head(
+/// Puts the link of that number last, if there is one.
+fn put_dashed_if(
     text: &mut Vec<u8>,
     nodes: &[Node],
+    links: &[[End; 2]],
     number: usize,
-    link: &[End; 2],
 ) -> Result<(), NoMemory>
-    ensures { OnOk result (text.new.items ≡ text.old.items ++ link_head nodes.now number link.now) }
-{
-    put_count(text, b"link ", number as u64)?;
-    put_ends(text, nodes, link)
-}
-
-/// Puts the rest of a line, as the run of that number is counted.
-fn put_count_at(text: &mut Vec<u8>, counts: &[Count], number: usize) -> Result<(), NoMemory>
     ensures { OnOk result (text.new.items ≡ text.old.items
-        ++ counted (slice_get counts.now number)) }
+        ++ dashed_if nodes.now (slice_get links.now number)) }
 {
-    match counts.get(number) {
-        Some(count) => put_counted(text, count),
+    match links.get(number) {
+        Some(link) => put_dashed(text, nodes, link),
         None => Ok(()),
     }
 }
 
-/// Puts the line of a link that was off.
-fn put_link(
-    text: &mut Vec<u8>,
-    nodes: &[Node],
-    number: usize,
-    link: &[End; 2],
-    counts: &[Count],
-) -> Result<(), NoMemory>
-    ensures { OnOk result (text.new.items ≡ text.old.items ++ (link_head nodes.now number link.now
-        ++ counted (slice_get counts.now number))) }
+/// Puts a link or a node last.
+fn put_point(text: &mut Vec<u8>, words: &Words<'_>, off: Off) -> Result<(), NoMemory>
+    ensures { OnOk result (text.new.items ≡ text.old.items ++ point_text words.now off) }
 {
-    put_link_head(text, nodes, number, link)?;
-    put_count_at(text, counts, number)
+    match off {
+        Off::Link(number) => put_dashed_if(text, words.nodes, words.links, number),
+        Off::Node(number) => put_node(text, words.nodes, number),
+    }
 }
 
-/// Puts the lines of all links.
-#[tactic(auto, using(crate::proofs::Listing::links_step))]
-fn put_links(
+/// Puts a link or a node last, behind another.
+fn put_next(text: &mut Vec<u8>, words: &Words<'_>, off: Off) -> Result<(), NoMemory>
+    ensures { OnOk result (text.new.items ≡ text.old.items ++ next_point words.now off) }
+{
+    put(text, ", ")?;
+    put_point(text, words, off)
+}
+
+/// Puts links and nodes last, behind another.
+#[tactic(auto, using(hsr_frame::proofs::OneMore::grown))]
+fn put_others(text: &mut Vec<u8>, words: &Words<'_>, offs: &[Off]) -> Result<(), NoMemory>
+    ensures { OnOk result (text.new.items ≡ text.old.items
+        ++ flat_map (next_point words.now) offs.now) }
+{
+    for off in offs {
+        put_next(text, words, *off)?;
+    }
+    Ok(())
+}
+
+/// Puts the line of these single points of failure last.
+#[tactic(auto, unfolding(crate::specs::Lines::some_points))]
+fn put_some_points(
     text: &mut Vec<u8>,
-    nodes: &[Node],
-    links: &[[End; 2]],
-    counts: &[Count],
+    words: &Words<'_>,
+    first: Off,
+    others: &[Off],
 ) -> Result<(), NoMemory>
     ensures { OnOk result (text.new.items ≡ text.old.items
-        ++ link_lines nodes.now counts.now 0 links.now) }
+        ++ some_points words.now first others.now) }
 {
-    for (number, link) in links.iter().enumerate() {
-        put_link(text, nodes, number, link, counts)?;
+    put(text, "single points of failure: ")?;
+    put_point(text, words, first)?;
+    put_others(text, words, others)?;
+    put(text, "\n")
+}
+
+/// Puts the line of these single points of failure last, or that there is none.
+fn put_points(text: &mut Vec<u8>, words: &Words<'_>, offs: &[Off]) -> Result<(), NoMemory>
+    ensures { OnOk result (text.new.items ≡ text.old.items ++ points_text words.now offs.now) }
+{
+    match offs.split_first() {
+        None => put(text, "no single point of failure\n"),
+        Some((first, others)) => put_some_points(text, words, *first, others),
     }
-    Ok(())
 }
 
-/// Puts what names a node that was off.
-#[tactic(auto, unfolding(crate::specs::Lines::node_head))]
-fn put_node_head(text: &mut Vec<u8>, nodes: &[Node], number: usize) -> Result<(), NoMemory>
-    ensures { OnOk result (text.new.items ≡ text.old.items ++ node_head nodes.now number) }
+// ---- all
+
+/// Puts how many entries are enough for all runs last, and the worst that one spent of its tables.
+#[tactic(auto, unfolding(crate::specs::Lines::enough_text))]
+fn put_enough(text: &mut Vec<u8>, words: &Words<'_>, plays: &[Played]) -> Result<(), NoMemory>
+    ensures { OnOk result (text.new.items ≡ text.old.items ++ enough_text words.now plays.now) }
 {
-    put_count(text, b"node ", number as u64)?;
-    put_name(text, nodes, number)
+    put_count(text, b"needed ", most_needed(plays) as u64)?;
+    put(text, "\nbudget ")?;
+    put_spent(text, words.naming, worst_spent(plays))?;
+    put(text, "\n")
 }
 
-/// Puts the line of a node that was off.
-fn put_node(
+/// Puts the last lines of a whole sweep last.
+fn put_all(
+    alloc: Global,
     text: &mut Vec<u8>,
-    nodes: &[Node],
-    number: usize,
-    count: &Count,
+    words: &Words<'_>,
+    plays: &[Played],
 ) -> Result<(), NoMemory>
-    ensures { OnOk result (text.new.items ≡ text.old.items ++ (node_head nodes.now number
-        ++ count_text count.now)) }
+    ensures { OnOk result (text.new.items ≡ text.old.items ++ all_text words.now plays.now) }
 {
-    put_node_head(text, nodes, number)?;
-    put_counted(text, count)
+    let points = points(alloc, plays)?;
+    put_points(text, words, points.as_slice())?;
+    put_enough(text, words, plays)
 }
 
-/// Puts the lines of all nodes.
-#[tactic(auto, using(crate::proofs::Listing::nodes_step))]
-fn put_nodes(text: &mut Vec<u8>, nodes: &[Node], counts: &[Count]) -> Result<(), NoMemory>
-    ensures { OnOk result (text.new.items ≡ text.old.items ++ node_lines nodes.now 0 counts.now) }
+/// Puts the last lines last; a part has none.
+fn put_last(
+    alloc: Global,
+    text: &mut Vec<u8>,
+    words: &Words<'_>,
+    plays: &[Played],
+) -> Result<(), NoMemory>
+    ensures { OnOk result (text.new.items ≡ text.old.items ++ last_text words.now plays.now) }
 {
-    for (number, count) in counts.iter().enumerate() {
-        put_node(text, nodes, number, count)?;
+    match words.asked.part {
+        None => put_all(alloc, text, words, plays),
+        Some(_) => Ok(()),
     }
-    Ok(())
 }
 
-/// The most entries that one of these runs needed, or `least`, if that is more.
-#[tactic(auto, using(crate::proofs::Listing::most_step))]
-fn most_needed(counts: &[Count], least: usize) -> usize
-    ensures { result ≡ most_needed counts.now least }
+/// The lines of a sweep: of each run, then the single points of failure, and what is enough for all.
+pub(crate) fn lines(alloc: Global, words: &Words<'_>, plays: &[Played]) -> Result<Vec<u8>, NoMemory>
+    ensures { IfOk result (λ text. text.items ≡ sweep_text words.now plays.now) }
 {
-    let mut most = least;
-    for count in counts.iter() {
-        most = most.max(count.needed);
-    }
-    most
-}
-
-/// The lines of a sweep: of each link, of each node, of the undisturbed run, and how many entries are enough for all.
-#[tactic(auto, unfolding(crate::specs::Lines::sweep_text))]
-pub(crate) fn lines(alloc: Global, sweep: &Sweep) -> Result<Vec<u8>, NoMemory>
-    ensures { IfOk result (λ text. text.items ≡ sweep_text sweep.now) }
-{
-    let nodes = sweep.wired.nodes.as_slice();
-    let links = sweep.links.as_slice();
-    let of_nodes = sweep.nodes.as_slice();
     let mut text = Vec::new(alloc);
-    put_links(&mut text, nodes, sweep.wired.topology.links(), links)?;
-    put_nodes(&mut text, nodes, of_nodes)?;
-    text.extend_from_slice(b"undisturbed")?;
-    put_counted(&mut text, &sweep.undisturbed)?;
-    // The undisturbed run counts too: the last line is enough for all.
-    let most = most_needed(links, sweep.undisturbed.needed);
-    put_count(&mut text, b"needed ", most_needed(of_nodes, most) as u64)?;
-    text.extend_from_slice(b"\n")?;
+    put_lines(&mut text, words, plays)?;
+    put_last(alloc, &mut text, words, plays)?;
     Ok(text)
 }

@@ -1,20 +1,41 @@
 //! The sweep of a plan, over a reader and two writers.
-ghost use Rattle.std.specs.Prelude.{◌≡◌, false, IfErr, IfOk, IfSome, IsOk};
-ghost use Rattle.hsr_plan_sweep.specs.Lines.{sweep_text};
-ghost use Rattle.hsr_plan_sweep.specs.Refusals.{IsKnown, IsUnsweepable, IsUnswept, IsUnsweptFrom, is_behind};
-ghost use Rattle.hsr_plan_sweep.specs.Swept.{IsSwept, SweepEnds, TellsSweep};
+ghost use Rattle.std.specs.Prelude.{◌≡◌, ◌⊎◌, false, IfErr, IfOk, IfSome, IsOk, Ok};
+ghost use Rattle.std.specs.Io.KnownBytes.{Appends};
+ghost use Rattle.hsr_plan_text.specs.Meaning.{plan_of};
+ghost use Rattle.hsr_plan_scenario.specs.declared.planning.Ending.TheVariants.{Unwritten};
+ghost use Rattle.hsr_plan_sweep.specs.Refusals.{IsKnown, IsUnplayedAmong, IsUnsweepable, IsUnswept, cases_in, ground, is_behind};
+ghost use Rattle.hsr_plan_sweep.specs.Runs.{ArePlayed};
+ghost use Rattle.hsr_plan_sweep.specs.Swept.{IsNamingOf, IsSwept, IsSweptPlan, SweepEnds, TellsPlays, TellsSweep, ending_of};
 
-use crate::lines::lines;
+use crate::asked::Asked;
+use crate::cases::cases_of;
+use crate::lines::{Words, lines};
+use crate::playing::{Played, Swept, play_all};
 use crate::progress::clear;
 use crate::running::Trouble;
-use crate::sweep::{Sweep, sweep_plan};
+use crate::variants::Ground;
+use crate::verdict::is_in_doubt;
 use hsr_frame::NoMemory;
+use hsr_naming::{Names, Naming};
+use hsr_plan_network::Node;
 use hsr_plan_scenario::{
-    Ending, Line, Trouble as PlanTrouble, complain, deliver, fail, line_of, read_text, words,
+    Ending, Line, Trouble as PlanTrouble, complain, deliver, fail, line_of, node_names, read_text,
+    words,
 };
+use hsr_plan_schedule::{Meaning, meaning_of};
 use hsr_plan_text::{Key, Plan, PlanFault, Refusal, Spot, TEXT_LIMIT, What, read};
 use std::alloc::Global;
 use std::io::{self, Read, Write};
+use std::thread::Threads;
+
+/// The lines of a sweep, and whether something is in doubt.
+#[derive(Drop)]
+struct Told {
+    text: Vec<u8>,
+    ending: Ending,
+}
+
+// ---- faults
 
 /// The line of what is wrong; there is none if allocation failed.
 fn line_of_trouble(alloc: Global, text: &str, trouble: &Trouble) -> Line
@@ -48,119 +69,255 @@ fn behind_the_end() -> PlanFault {
     }
 }
 
-/// The lines of a sweep.
-fn lines_of(alloc: Global, sweep: &Sweep) -> Result<Vec<u8>, Line>
-    ensures text { IfOk result (λ text. text.items ≡ sweep_text sweep.now) }
-    ensures none { IfErr result (λ line. IsOk line → ⊥) }
+// ---- lines
+
+/// What calls nodes by their names, and entries by their numbers.
+fn naming_of(alloc: Global, nodes: &[Node]) -> Result<Naming, NoMemory>
+    ensures { IfOk result (IsNamingOf nodes.now) }
 {
-    match lines(alloc, sweep) {
-        Ok(text) => Ok(text),
-        Err(_) => Err(Err(NoMemory)),
+    let nodes = node_names(alloc, nodes)?;
+    let entries = Vec::new(alloc);
+    Ok(Naming::Names(Names { nodes, entries }))
+}
+
+/// How a sweep ends where something is in doubt, or nothing is.
+fn ending_of(is_doubtful: bool) -> Ending
+    ensures { result ≡ ending_of is_doubtful }
+{
+    if is_doubtful {
+        Ending::Doubted
+    } else {
+        Ending::Planned
     }
 }
 
-/// The lines of a plan's sweep, or the line of what is wrong.
-fn swept_plan<E: Write>(
+/// The lines of what is counted, and whether something is in doubt.
+fn told_of(
+    alloc: Global,
+    asked: Asked,
+    meaning: &Meaning,
+    plays: &[Played],
+) -> Result<Told, NoMemory>
+    ensures { IfOk result (λ told. TellsPlays asked meaning.now plays.now told.text.items told.ending) }
+{
+    let naming = naming_of(alloc, meaning.nodes.as_slice())?;
+    let words = Words {
+        nodes: meaning.nodes.as_slice(),
+        links: meaning.topology.links(),
+        naming: &naming,
+        asked,
+    };
+    let text = lines(alloc, &words, plays)?;
+    let ending = ending_of(is_in_doubt(asked, plays));
+    Ok(Told { text, ending })
+}
+
+// ---- sweeps
+
+/// What is counted of the cases that are asked for of a plan's text that means this.
+fn plays_of<T: Threads + Sync, E: Write>(
+    rt: &T,
     alloc: Global,
     text: &str,
-    plan: Plan,
-    at: u64,
+    meaning: &Meaning,
+    asked: Asked,
     is_shown: bool,
     errors: &mut E,
-) -> Result<Vec<u8>, Line>
-    ensures told { IfOk result (λ lines. TellsSweep plan at lines.items) }
-    ensures none { IfErr result (λ line. IsOk line → IsUnswept plan at) }
+) -> Result<Vec<Played>, Trouble>
+    ensures played { IfOk result (λ plays. ArePlayed (plan_of text.now) (ground asked.at meaning.now)
+        (cases_in asked meaning.now) plays.items) }
+    ensures none { IfErr result (λ trouble. IsKnown trouble → IsUnplayedAmong (plan_of text.now)
+        (ground asked.at meaning.now) (cases_in asked meaning.now)) }
     ensures hidden { is_shown ≡ false → E.contents errors.new ≡ E.contents errors.old }
 {
-    let mut plan = plan;
-    let swept = sweep_plan(alloc, &mut plan, at, is_shown, errors);
+    let Ok(cases) = cases_of(alloc, asked, &meaning.topology) else {
+        return Err(Trouble::Memory);
+    };
+    let ground = Ground {
+        at: asked.at,
+        nodes: meaning.nodes.as_slice(),
+        links: meaning.topology.links(),
+    };
+    let swept = Swept { text, ground };
+    play_all(rt, alloc, &swept, cases.as_slice(), is_shown, errors)
+}
+
+/// The lines of the sweep of a plan's text that means this; or why there are none.
+fn sweep<T: Threads + Sync, E: Write>(
+    rt: &T,
+    alloc: Global,
+    text: &str,
+    meaning: &Meaning,
+    asked: Asked,
+    is_shown: bool,
+    errors: &mut E,
+) -> Result<Told, Trouble>
+    ensures told { IfOk result (λ told. TellsSweep (plan_of text.now) asked meaning.now told.text.items told.ending) }
+    ensures none { IfErr result (λ trouble. IsKnown trouble → IsUnplayedAmong (plan_of text.now)
+        (ground asked.at meaning.now) (cases_in asked meaning.now)) }
+    ensures hidden { is_shown ≡ false → E.contents errors.new ≡ E.contents errors.old }
+{
+    match plays_of(rt, alloc, text, meaning, asked, is_shown, errors) {
+        Ok(plays) => match told_of(alloc, asked, meaning, plays.as_slice()) {
+            Ok(told) => Ok(told),
+            Err(_) => Err(Trouble::Memory),
+        },
+        Err(trouble) => Err(trouble),
+    }
+}
+
+/// The lines of the sweep of a plan's text that means this, or the line of what is wrong.
+fn sweep_or_line<T: Threads + Sync, E: Write>(
+    rt: &T,
+    alloc: Global,
+    text: &str,
+    meaning: &Meaning,
+    asked: Asked,
+    is_shown: bool,
+    errors: &mut E,
+) -> Result<Told, Line>
+    ensures told { IfOk result (λ told. TellsSweep (plan_of text.now) asked meaning.now told.text.items told.ending) }
+    ensures none { IfErr result (λ line. IsOk line → IsUnplayedAmong (plan_of text.now)
+        (ground asked.at meaning.now) (cases_in asked meaning.now)) }
+    ensures hidden { is_shown ≡ false → E.contents errors.new ≡ E.contents errors.old }
+{
+    let told = sweep(rt, alloc, text, meaning, asked, is_shown, errors);
     // Before a fault's line is written there.
     clear(is_shown, errors);
-    match swept {
-        Ok(sweep) => lines_of(alloc, &sweep),
+    match told {
+        Ok(told) => Ok(told),
         Err(trouble) => Err(line_of_trouble(alloc, text, &trouble)),
     }
 }
 
 /// The lines of a plan's sweep from a moment that isn't behind its end, or the line of what is wrong.
-fn swept_in_time<E: Write>(
+fn swept_in_time<T: Threads + Sync, E: Write>(
+    rt: &T,
     alloc: Global,
     text: &str,
-    plan: Plan,
-    at: u64,
+    plan: &Plan,
+    asked: Asked,
     is_shown: bool,
     errors: &mut E,
-) -> Result<Vec<u8>, Line>
-    ensures told { IfOk result (λ lines. TellsSweep plan at lines.items) }
-    ensures none { IfErr result (λ line. IsOk line → IsUnsweptFrom plan at) }
+) -> Result<Told, Line>
+    requires { plan_of text.now ≡ Ok plan.now }
+    ensures told { IfOk result (λ told. IsSweptPlan plan.now asked told.text.items told.ending) }
+    ensures none { IfErr result (λ line. IsOk line → IsUnswept plan.now asked) }
     ensures hidden { is_shown ≡ false → E.contents errors.new ≡ E.contents errors.old }
 {
-    if is_behind(plan.outline.until, at) {
+    match meaning_of(alloc, plan) {
+        Ok(meaning) => sweep_or_line(rt, alloc, text, &meaning, asked, is_shown, errors),
+        Err(fault) => Err(line_of(alloc, text, &PlanTrouble::Plan(fault))),
+    }
+}
+
+/// The lines of a plan's sweep, or the line of what is wrong.
+fn swept_plan<T: Threads + Sync, E: Write>(
+    rt: &T,
+    alloc: Global,
+    text: &str,
+    plan: &Plan,
+    asked: Asked,
+    is_shown: bool,
+    errors: &mut E,
+) -> Result<Told, Line>
+    requires { plan_of text.now ≡ Ok plan.now }
+    ensures told { IfOk result (λ told. IsSweptPlan plan.now asked told.text.items told.ending) }
+    ensures none { IfErr result (λ line. IsOk line → IsUnswept plan.now asked) }
+    ensures hidden { is_shown ≡ false → E.contents errors.new ≡ E.contents errors.old }
+{
+    if is_behind(plan.outline.until, asked.at) {
         let trouble = PlanTrouble::Plan(behind_the_end());
         return Err(line_of(alloc, text, &trouble));
     }
-    swept_plan(alloc, text, plan, at, is_shown, errors)
+    swept_in_time(rt, alloc, text, plan, asked, is_shown, errors)
 }
 
 /// The lines of the sweep of what octets say as a plan, or the line of what is wrong.
-fn swept<E: Write>(
+fn swept<T: Threads + Sync, E: Write>(
+    rt: &T,
     alloc: Global,
     octets: &[u8],
-    at: u64,
+    asked: Asked,
     is_shown: bool,
     errors: &mut E,
-) -> Result<Vec<u8>, Line>
-    ensures swept { IfOk result (λ lines. IsSwept octets.now at lines.items) }
-    ensures none { IfErr result (λ line. IsOk line → IsUnsweepable octets.now at) }
+) -> Result<Told, Line>
+    ensures told { IfOk result (λ told. IsSwept octets.now asked told.text.items told.ending) }
+    ensures none { IfErr result (λ line. IsOk line → IsUnsweepable octets.now asked) }
     ensures hidden { is_shown ≡ false → E.contents errors.new ≡ E.contents errors.old }
 {
     let Ok(text) = str::from_utf8(octets) else {
         return Err(words(alloc, "fault: plan 1:1 no UTF-8"));
     };
     match read(alloc, text) {
-        Ok(plan) => swept_in_time(alloc, text, plan, at, is_shown, errors),
+        Ok(plan) => swept_plan(rt, alloc, text, &plan, asked, is_shown, errors),
         Err(fault) => Err(line_of(alloc, text, &PlanTrouble::Plan(fault))),
     }
 }
 
+/// Writes the lines of a sweep.
+fn give<W: Write>(writer: &mut W, told: &Told) -> Ending
+    ensures { (result ≡ Unwritten) ⊎ ((result ≡ told.now.ending)
+        × Appends (W.contents writer.old) (W.contents writer.new) told.now.text.items) }
+{
+    match deliver(writer, told.text.as_slice()) {
+        Ending::Planned => told.ending,
+        _ => Ending::Unwritten,
+    }
+}
+
 /// Writes the lines of a sweep, or the line of what is wrong.
-#[tactic(auto, using(crate::proofs::Whole::kept_if_hidden, crate::proofs::Whole::why_if_hidden))]
-fn answer<W: Write, E: Write>(
+#[tactic(auto, using(crate::proofs::Whole::given_if_hidden, crate::proofs::Whole::why_if_hidden))]
+fn answer<T: Threads + Sync, W: Write, E: Write>(
+    rt: &T,
     alloc: Global,
     octets: &[u8],
-    at: u64,
+    asked: Asked,
     is_shown: bool,
     writer: &mut W,
     errors: &mut E,
 ) -> io::Result<Ending>
-    ensures { IfOk result (SweepEnds octets.now at is_shown (W.contents writer.old)
+    ensures { IfOk result (SweepEnds octets.now asked is_shown (W.contents writer.old)
         (W.contents writer.new) (E.contents errors.old) (E.contents errors.new)) }
 {
-    match swept(alloc, octets, at, is_shown, errors) {
-        Ok(text) => Ok(deliver(writer, text.as_slice())),
+    match swept(rt, alloc, octets, asked, is_shown, errors) {
+        Ok(told) => Ok(give(writer, &told)),
         Err(line) => complain(alloc, errors, line),
     }
 }
 
-/// Reads a plan, and writes a line for each link and each node that is off from a moment on, in microseconds, then of
-/// the undisturbed run, then how many table entries are enough for all: how many sends each run had, how many of these
-/// are complete, missed and taken up twice, how many entries its tables needed, and what the audit of networks found,
-/// in the words of a report. Where nothing can be counted of one of these, nothing is written but one line on `errors`,
-/// as by `plan_run`. Where that is asked for, `errors` is told how far it is.
-pub fn sweep_run<R: Read, W: Write, E: Write>(
+/// Reads a plan, and writes a line for each link and each node that is off from a moment on, in microseconds, for each two of them where
+/// that is asked for, and then of the undisturbed run: how many sends each run had; how many of these are complete, missed, and taken up
+/// twice; how many entries its tables needed, and what was spent of them; how long a send took at most, and the most load of a channel;
+/// and what the audit of networks found, in the words of a report. A send is due at those whom its stream is for and who are on when it
+/// is sent. Runs are played by as many threads as there are processors; the lines are those of one. Then come the links and nodes which
+/// are single points of failure, and what is enough for all runs. A part has each N-th line from the K-th on, and none of these last ones.
+/// `Doubted` comes where a send isn't complete though one link or node is off at most, or where a run passes a limit. Where nothing can
+/// be counted of one of these, nothing is written but one line on `errors`, as by `plan_run`. Where that is asked for, `errors` is told
+/// how far it is.
+pub fn sweep_run<T: Threads + Sync, R: Read, W: Write, E: Write>(
+    rt: &T,
     alloc: Global,
     reader: &mut R,
     writer: &mut W,
     errors: &mut E,
-    at: u64,
+    asked: Asked,
     is_shown: bool,
 ) -> io::Result<Ending>
     ensures { IfOk result (λ ending. IfSome (R.remaining reader.old) (λ octets.
-        SweepEnds octets at is_shown (W.contents writer.old) (W.contents writer.new)
+        SweepEnds octets asked is_shown (W.contents writer.old) (W.contents writer.new)
         (E.contents errors.old) (E.contents errors.new) ending)) }
 {
     match read_text(alloc, reader, TEXT_LIMIT) {
-        Ok(octets) => answer(alloc, octets.as_slice(), at, is_shown, writer, errors),
+        Ok(octets) => answer(
+            rt,
+            alloc,
+            octets.as_slice(),
+            asked,
+            is_shown,
+            writer,
+            errors,
+        ),
         Err(fault) => fail(errors, fault),
     }
 }

@@ -7,4 +7,5 @@ pub mod Network
 pub mod Publishing
 pub mod Streams
 pub mod Events
+pub mod Moves
 pub mod Meaning

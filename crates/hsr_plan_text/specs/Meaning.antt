@@ -1,65 +1,34 @@
 -- What a document says as a plan, or its first fault.
-use Rattle.std.specs.Prelude.{ℕ, ◌*◌, ◌^◌, List, [], ◌∷◌, codes, Option, Some, None, Result, Ok, Err, ok_or}
-use Rattle.std.specs.Str.{bytes_eq}
+use Rattle.std.specs.Prelude.{ℕ, ◌*◌, ◌^◌, List, [], ◌∷◌, Option, Some, None, Result, Ok, Err}
 use Rattle.toml.specs.Data.{Data, Members}
-use Rattle.hsr_frame.specs.Cases.{first_of}
 use Rattle.hsr_toml.specs.Documents.{document_of}
 use Rattle.hsr_toml.specs.declared.document.NoDocument.{NoDocument}
 use Rattle.hsr_toml.specs.declared.document.NoDocument.TheVariants.{NoToml, NoMemory as NoRoom}
 use Rattle.hsr_toml.specs.Fallible.{◌>>=◌}
 use Rattle.hsr_plan_text.specs.Fallible.{at_spot, each}
+use Rattle.hsr_plan_text.specs.Moves.{moves_in}
 use Rattle.hsr_plan_text.specs.Network.{network_in}
 use Rattle.hsr_plan_text.specs.Streams.{stream_in}
 use Rattle.hsr_plan_text.specs.Events.{event_in}
 use Rattle.hsr_plan_text.specs.Plan.{Outline, Plan, Stream}
-use Rattle.hsr_toml.specs.Tables.{at_key, between, needed, optional, perhaps, tables, text, word}
+use Rattle.hsr_toml.specs.Tables.{between, optional, perhaps, tables, word}
 use Rattle.hsr_plan_text.specs.Fault.{faults}
-use Rattle.hsr_plan_text.specs.Tables.{hop, moment, only}
-use Rattle.hsr_plan_text.specs.Words.{moves_of, title_of}
+use Rattle.hsr_plan_text.specs.Tables.{moment, only}
+use Rattle.hsr_plan_text.specs.Words.{title_of}
 use Rattle.hsr_plan_text.specs.declared.fault.Key.{Key}
 use Rattle.hsr_plan_text.specs.declared.fault.Key.TheVariants as key
-use Rattle.hsr_plan_text.specs.declared.fault.Refusal.TheVariants.{Idle, Together}
 use Rattle.hsr_plan_text.specs.declared.fault.Spot.TheVariants as spot
 use Rattle.hsr_plan_text.specs.declared.fault.What.{What}
-use Rattle.hsr_plan_text.specs.declared.fault.What.TheVariants.{Text, BadValue, Refused, NoMemory}
+use Rattle.hsr_plan_text.specs.declared.fault.What.TheVariants.{Text, NoMemory}
 use Rattle.hsr_plan_text.specs.declared.fault.PlanFault.{PlanFault}
 use Rattle.hsr_plan_text.specs.declared.plan.Event.{Event}
-use Rattle.hsr_plan_text.specs.declared.plan.Moves.{Moves}
-use Rattle.hsr_plan_text.specs.declared.plan.Moves.TheVariants.{EachSendDrains, EachMomentDrains, Hop}
 
 -- milliseconds as microseconds
 abbrev pub milliseconds : Key → Data → Result ℕ What
 milliseconds key d = between faults 0 (2 ^ 30) key d >>= λ n. Ok (n * 1000)
 
 abbrev pub top_keys : List Key
-top_keys = key.Title ∷ key.Ring ∷ key.Rings ∷ key.RedBox ∷ key.Address ∷ key.Mode ∷ key.Capacity ∷ key.Life ∷ key.Until ∷ key.Epoch ∷ key.Moves ∷ key.Hop ∷ key.Stream ∷ key.Event ∷ []
-
--- ---- how copies move
-
--- by hops, of as many microseconds as `hop_us` says
-abbrev pub hops : Members → Result Moves What
-hops ms = needed faults key.Hop hop ms >>= λ us. Ok (Hop us)
-
--- `hop_us` stands beside no moves that are told without it
-abbrev pub without_hop : Option Data → Moves → Result Moves What
-without_hop None moves = Ok moves
-without_hop (Some d) (Hop us) = Err (Refused (Together key.Hop))
-without_hop (Some d) EachSendDrains = Err (Refused (Idle key.Hop))
-without_hop (Some d) EachMomentDrains = Err (Refused (Idle key.Hop))
-
-abbrev pub moves_alone : Members → List ℕ → Result Moves What
-moves_alone ms s = ok_or (moves_of s) (BadValue key.Moves) >>= without_hop (at_key faults key.Hop ms)
-
--- by the text of `moves`, and by `hop_us` where that is `hops`
-abbrev pub moves_by : Members → List ℕ → Result Moves What
-moves_by ms s = first_of ((bytes_eq s (codes "hops"), hops ms) ∷ []) (moves_alone ms s)
-
-abbrev pub moves_if : Members → Option Data → Result Moves What
-moves_if ms None = without_hop (at_key faults key.Hop ms) EachSendDrains
-moves_if ms (Some d) = text faults key.Moves d >>= moves_by ms
-
-abbrev pub moves_in : Members → Result Moves What
-moves_in ms = moves_if ms (at_key faults key.Moves ms)
+top_keys = key.Title ∷ key.Ring ∷ key.Rings ∷ key.RedBox ∷ key.Address ∷ key.Mode ∷ key.Capacity ∷ key.Life ∷ key.Until ∷ key.Epoch ∷ key.Moves ∷ key.Hop ∷ key.Rate ∷ key.Residence ∷ key.Switching ∷ key.Stream ∷ key.Event ∷ []
 
 -- ---- the document
 
@@ -68,7 +37,7 @@ unfoldable pub outline : Members → Result Outline What
 outline ms = do
   _ ← only top_keys ms
   title ← optional faults key.Title None (perhaps (word faults title_of)) ms
-  capacity ← optional faults key.Capacity 64 (between faults 1 4096) ms
+  capacity ← optional faults key.Capacity None (perhaps (between faults 1 4096)) ms
   life ← optional faults key.Life 2000000 milliseconds ms
   until ← optional faults key.Until None (perhaps moment) ms
   epoch ← optional faults key.Epoch 0 (between faults 0 4294967295) ms

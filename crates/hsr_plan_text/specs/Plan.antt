@@ -36,12 +36,15 @@ pub record Timing : Type 0 where
 
 pub record Stream : Type 0 where
   pub from : List (List ℕ)
+  -- who needs it; nobody is named where it is for all that it is due at
+  pub receivers : List (List ℕ)
   pub framing : Framing
   pub timing : Timing
 
 pub record Outline : Type 0 where
   pub title : Option (List ℕ)
-  pub capacity : ℕ
+  -- where it is said
+  pub capacity : Option ℕ
   pub life : ℕ
   pub until : Option ℕ
   -- the moment 0, in seconds since 1970

@@ -24,7 +24,7 @@ use Rattle.hsr_plan_text.specs.declared.plan.Pace.TheVariants.{Gaps, Samples}
 use Rattle.hsr_plan_text.specs.declared.plan.SampleRate.{SampleRate}
 use Rattle.hsr_plan_text.specs.declared.plan.SampleRate.TheVariants.{Rate4000, Rate4800, Rate12800, Rate14400}
 
--- ---- who sends it
+-- ---- who sends it, and who needs it
 
 abbrev pub only_name : Key → List ℕ → Result (List (List ℕ)) What
 only_name key s = named key s >>= λ n. Ok (n ∷ [])
@@ -33,7 +33,7 @@ abbrev pub how_many : Items → ℕ
 how_many no_items = zero
 how_many (item d ds) = suc (how_many ds)
 
--- a list has one sender at least, and 4096 at most
+-- a list has one name at least, and 4096 at most
 abbrev pub some_few : ℕ → Bool
 some_few n = nat_lt 0 n && nat_le n 4096
 
@@ -178,12 +178,13 @@ timing_in kind ms = do
 -- ---- all
 
 abbrev pub stream_keys : List Key
-stream_keys = key.From ∷ key.To ∷ key.Kind ∷ key.Size ∷ key.Vlan ∷ key.Priority ∷ key.Appid ∷ key.ControlBlock ∷ key.Id ∷ key.DataSet ∷ key.Start ∷ key.Every ∷ key.Grow ∷ key.Most ∷ key.SampleRate ∷ key.Asdus ∷ key.Count ∷ key.Until ∷ []
+stream_keys = key.From ∷ key.For ∷ key.To ∷ key.Kind ∷ key.Size ∷ key.Vlan ∷ key.Priority ∷ key.Appid ∷ key.ControlBlock ∷ key.Id ∷ key.DataSet ∷ key.Start ∷ key.Every ∷ key.Grow ∷ key.Most ∷ key.SampleRate ∷ key.Asdus ∷ key.Count ∷ key.Until ∷ []
 
 unfoldable pub stream_in : Members → Result Stream What
 stream_in ms = do
   _ ← only stream_keys ms
   from ← needed faults key.From senders ms
+  receivers ← optional faults key.For [] senders ms
   framing ← framing_in ms
   timing ← timing_in framing.kind ms
-  Ok (record { from = from; framing = framing; timing = timing })
+  Ok (record { from = from; receivers = receivers; framing = framing; timing = timing })

@@ -8,7 +8,10 @@ use Rattle.hsr_toml.specs.Names.{is_port_letter, mac_of, name_of}
 use Rattle.hsr_plan_text.specs.declared.plan.Kind.{Kind}
 use Rattle.hsr_plan_text.specs.declared.plan.Kind.TheVariants.{Goose, SampledValues}
 use Rattle.hsr_plan_text.specs.declared.plan.Moves.{Moves}
-use Rattle.hsr_plan_text.specs.declared.plan.Moves.TheVariants.{EachSendDrains, EachMomentDrains, Hop}
+use Rattle.hsr_plan_text.specs.declared.plan.Moves.TheVariants.{EachSendDrains, EachMomentDrains, Timed}
+use Rattle.hsr_plan_text.specs.declared.plan.Switching.{Switching}
+use Rattle.hsr_plan_text.specs.declared.plan.Switching.TheVariants.{Store, Cut}
+use Rattle.hsr_plan_text.specs.declared.plan.Transfer.TheVariants.{Hop}
 use Rattle.hsr_plan_text.specs.declared.plan.Target.{Target}
 use Rattle.hsr_plan_text.specs.declared.plan.Target.TheVariants.{Named, Address}
 
@@ -41,7 +44,10 @@ hop_of s = do
 
 abbrev pub moves_of : List ℕ → Option Moves
 moves_of s = first_of ((bytes_eq s (codes "each send drains"), Some EachSendDrains) ∷ (bytes_eq s (codes "each moment drains"), Some EachMomentDrains) ∷ [])
-    (option_map (λ hop. Hop hop) (hop_of s))
+    (option_map (λ hop. Timed (Hop hop)) (hop_of s))
+
+abbrev pub switching_of : List ℕ → Option Switching
+switching_of s = first_of ((bytes_eq s (codes "store"), Some Store) ∷ (bytes_eq s (codes "cut"), Some Cut) ∷ []) None
 
 abbrev pub kind_named : List ℕ → Option Kind
 kind_named s = first_of ((bytes_eq s (codes "goose"), Some Goose) ∷ (bytes_eq s (codes "sv"), Some SampledValues) ∷ []) None

@@ -27,9 +27,15 @@ pub enum Key {
     Moves,
     /// Written `hop_us`.
     Hop,
+    /// Written `rate_mbps`.
+    Rate,
+    /// Written `residence_us`.
+    Residence,
+    Switching,
     Stream,
     Event,
     From,
+    For,
     To,
     /// Written `type`.
     Kind,
@@ -107,9 +113,13 @@ impl Key {
             Key::Epoch => "epoch",
             Key::Moves => "moves",
             Key::Hop => "hop_us",
+            Key::Rate => "rate_mbps",
+            Key::Residence => "residence_us",
+            Key::Switching => "switching",
             Key::Stream => "stream",
             Key::Event => "event",
             Key::From => "from",
+            Key::For => "for",
             Key::To => "to",
             Key::Kind => "type",
             Key::Size => "size",
@@ -165,6 +175,8 @@ pub enum Refusal {
     NoLink(Key),
     /// A node sends to itself.
     ToItself(Word),
+    /// The frames of the stream aren't due at who has the name.
+    NotDue(Word),
     /// Nothing says where it ends.
     Endless(Key),
     /// A moment of a key is behind the end, or the moment of a start is the end itself.

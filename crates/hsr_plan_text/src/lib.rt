@@ -10,11 +10,13 @@
 //! - `publishing`: by what receivers know a stream
 //! - `streams`: the streams of a plan
 //! - `events`: the events of a plan
+//! - `moving`: how the copies of a plan move
 //! - `reading`: how a text is read as a plan
 #![tactic(auto)]
 
 mod events;
 mod fault;
+mod moving;
 mod network;
 mod plan;
 mod publishing;
@@ -28,7 +30,7 @@ pub use fault::{Key, PlanFault, Refusal, Spot, What};
 pub use hsr_toml::TEXT_LIMIT;
 pub use plan::{
     Addressed, Behind, Deed, Event, Framing, InMode, Kind, LinkEnd, Moves, Naming, Network,
-    Outline, Pace, Plan, Ring, SampleRate, Stream, Target, Timing,
+    Outline, Pace, Plan, Ring, SampleRate, Stream, Switching, Target, Timing, Transfer, Wire,
 };
 pub use reading::read;
 pub use word::Word;

@@ -66,6 +66,32 @@ impl Model for Network {
     ghost view = { λ n. record { rings = n.rings.items; redboxes = n.redboxes.items; addresses = n.addresses.items; modes = n.modes.items } };
 }
 
+/// When a node judges what comes by a wire.
+#[derive(Clone, Copy, Debug, PartialEq, Eq)]
+pub enum Switching {
+    /// Once a frame is there as a whole.
+    Store,
+    /// Once its first 22 octets are there, where the way on is free, else as `Store`.
+    Cut,
+}
+
+/// The wires of a plan: how many Mbit/s they carry, how many microseconds a node keeps a frame, and when it judges it.
+#[derive(Clone, Copy, Debug, PartialEq, Eq)]
+pub struct Wire {
+    pub rate: u64,
+    pub residence: u64,
+    pub switching: Switching,
+}
+
+/// How long copies take from node to node.
+#[derive(Clone, Copy, Debug, PartialEq, Eq)]
+pub enum Transfer {
+    /// Each is taken and judged this number of microseconds after it was put.
+    Hop(u64),
+    /// In each direction of a link one frame goes at a time.
+    Wire(Wire),
+}
+
 /// How copies move.
 #[derive(Clone, Copy, Debug, PartialEq, Eq)]
 pub enum Moves {
@@ -73,8 +99,8 @@ pub enum Moves {
     EachSendDrains,
     /// All are at their end before the next moment.
     EachMomentDrains,
-    /// Each is put on its link at once, and taken and judged this number of microseconds later.
-    Hop(u64),
+    /// Each is put on its link at once, and taken and judged so much later.
+    Timed(Transfer),
 }
 
 /// Whom a stream is for.
@@ -116,7 +142,7 @@ pub struct Framing {
     pub naming: Naming,
 }
 
-/// How many samples there are a second: 80 or 256 a period of 50 or 60 Hz, and the rates of IEC 61869-9.
+/// How many samples there are a second: 80 a period of 50 or 60 Hz, 256 a period of 50 Hz, and 240 a period of 60 Hz, as IEC 61869-9 has it.
 #[derive(Clone, Copy, Debug, PartialEq, Eq)]
 pub enum SampleRate {
     Rate4000,
@@ -170,10 +196,12 @@ impl Model for Timing {
 }
 
 /// Frames that each of some nodes sends again and again.
-/// `from` are the senders, each of which sends all frames.
+/// `from` are the senders, each of which sends all frames; `receivers` are those who need them, and none where they are for all
+/// that they are due at.
 #[derive(Debug, Drop)]
 pub struct Stream {
     pub from: Vec<Word>,
+    pub receivers: Vec<Word>,
     pub framing: Framing,
     pub timing: Timing,
 }
@@ -183,7 +211,7 @@ impl Model for Stream {
 
     ghost Value = { Stream };
 
-    ghost view = { λ s. record { from = s.from.items; framing = s.framing; timing = s.timing } };
+    ghost view = { λ s. record { from = s.from.items; receivers = s.receivers.items; framing = s.framing; timing = s.timing } };
 }
 
 /// An end of a link: a node by its name, and the letter of its port where that is said.
@@ -214,8 +242,8 @@ pub struct Event {
 #[derive(Debug, Drop)]
 pub struct Outline {
     pub title: Option<String>,
-    /// How many copies wait in each direction of a link.
-    pub capacity: usize,
+    /// How many copies wait in each direction of a link, where that is said.
+    pub capacity: Option<usize>,
     /// The period of supervision in microseconds; 0 for none.
     // Microseconds, though the text says milliseconds: no crate below knows another unit.
     pub life: u64,

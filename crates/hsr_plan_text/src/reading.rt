@@ -2,31 +2,28 @@
 ghost use Rattle.std.specs.Prelude.{◌≡◌, [], map, Err, None, option_map, string_bytes};
 ghost use Rattle.toml.specs.View.{table_view, view};
 ghost use Rattle.hsr_plan_text.specs.Fallible.{Gives, GivesAt, at_spot, each};
-ghost use Rattle.hsr_toml.specs.Tables.{at_key, between, needed, optional, perhaps, word};
+ghost use Rattle.hsr_toml.specs.Tables.{between, optional, perhaps, word};
 ghost use Rattle.hsr_plan_text.specs.Fault.{faults};
-ghost use Rattle.hsr_plan_text.specs.Tables.{hop};
 ghost use Rattle.hsr_plan_text.specs.Words.{title_of};
 ghost use Rattle.hsr_plan_text.specs.Streams.{stream_in};
 ghost use Rattle.hsr_plan_text.specs.Events.{event_in};
-ghost use Rattle.hsr_plan_text.specs.Meaning.{document, events_in, hops, milliseconds, moves_alone, moves_by, moves_in, outline, plan_of, streams_in, text_fault, without_hop};
+ghost use Rattle.hsr_plan_text.specs.Meaning.{document, events_in, milliseconds, outline, plan_of, streams_in, text_fault};
 ghost use Rattle.hsr_plan_text.specs.declared.fault.Key.TheVariants as key;
 ghost use Rattle.hsr_plan_text.specs.declared.fault.Spot.TheVariants as spot;
 ghost use Rattle.hsr_plan_text.specs.declared.fault.What.TheVariants.{NoMemory};
 
 use crate::events::event;
-use crate::fault::{Key, PlanFault, Refusal, Spot, What};
+use crate::fault::{Key, PlanFault, Spot, What};
+use crate::moving::moves;
 use crate::network::network;
-use crate::plan::{Event, Moves, Outline, Plan, Stream};
+use crate::plan::{Event, Outline, Plan, Stream};
 use crate::streams::{stream, until};
 use crate::table::only;
-use crate::words::{HOP_LIMIT, is_title, moves_of};
+use crate::words::is_title;
 use hsr_tables::LIFE_CHECK;
-use hsr_toml::{NoDocument, between, document_of, needed, number_or, tables_at, text, value};
+use hsr_toml::{NoDocument, between, document_of, number_or, tables_at, text, value};
 use std::alloc::Global;
 use toml::{Table, Value};
-
-/// How many copies wait in each direction of a link, where a text doesn't say.
-const CAPACITY: u64 = 64;
 
 /// How many copies may wait in each direction of a link.
 const CAPACITY_LIMIT: u64 = 4096;
@@ -144,13 +141,18 @@ fn title(alloc: Global, table: &Table) -> Result<Option<String>, What>
     }
 }
 
-/// The capacity of a document.
-fn capacity(table: &Table) -> Result<usize, What>
-    ensures { Gives (λ n. n) result (optional faults key.Capacity 64 (between faults 1 4096)
-        (table_view table.now)) }
+/// The capacity of a document, where it says one.
+fn capacity(table: &Table) -> Result<Option<usize>, What>
+    ensures { Gives (λ n. n) result (optional faults key.Capacity None
+        (perhaps (between faults 1 4096)) (table_view table.now)) }
 {
-    let capacity = number_or(CAPACITY, 1, CAPACITY_LIMIT, table, Key::Capacity)?;
-    Ok(capacity as usize)
+    match value(table, Key::Capacity) {
+        None => Ok(None),
+        Some(value) => {
+            let capacity = between(1, CAPACITY_LIMIT, Key::Capacity, value)?;
+            Ok(Some(capacity as usize))
+        }
+    }
 }
 
 /// The period of supervision of a document, in microseconds: that of the standard, where it doesn't say.
@@ -177,73 +179,10 @@ fn epoch(table: &Table) -> Result<u64, What>
     number_or(0, 0, EPOCH_LIMIT, table, Key::Epoch)
 }
 
-// ---- how copies move
-
-/// How long a hop takes, in microseconds.
-fn hop(table: &Table) -> Result<u64, What>
-    ensures { Gives (λ n. n) result (needed faults key.Hop hop (table_view table.now)) }
-{
-    between(1, HOP_LIMIT, Key::Hop, needed(table, Key::Hop)?)
-}
-
-/// That copies move by hops, of as many microseconds as a key of its own says.
-fn hops(table: &Table) -> Result<Moves, What>
-    ensures { Gives (λ m. m) result (hops (table_view table.now)) }
-{
-    let hop = hop(table)?;
-    Ok(Moves::Hop(hop))
-}
-
-/// Moves that are told without `hop_us`, which then may not stand there.
-fn without_hop(table: &Table, moves: Moves) -> Result<Moves, What>
-    ensures { Gives (λ m. m) result (without_hop (at_key faults key.Hop (table_view table.now))
-        moves) }
-{
-    match (value(table, Key::Hop), moves) {
-        (None, _) => Ok(moves),
-        // Two ways to say one thing: which of them holds isn't guessed.
-        (Some(_), Moves::Hop(_)) => Err(What::Refused(Refusal::Together(Key::Hop))),
-        // It would say nothing, and whoever wrote it thinks that copies move by hops.
-        (Some(_), Moves::EachSendDrains | Moves::EachMomentDrains) => {
-            Err(What::Refused(Refusal::Idle(Key::Hop)))
-        }
-    }
-}
-
-/// How copies move, by a text that tells it without another key.
-fn moves_alone(table: &Table, word: &str) -> Result<Moves, What>
-    ensures { Gives (λ m. m) result (moves_alone (table_view table.now) word.now) }
-{
-    match moves_of(word) {
-        Some(moves) => without_hop(table, moves),
-        None => Err(What::BadValue(Key::Moves)),
-    }
-}
-
-/// How copies move, by a text.
-fn moves_by(table: &Table, word: &str) -> Result<Moves, What>
-    ensures { Gives (λ m. m) result (moves_by (table_view table.now) word.now) }
-{
-    match word {
-        "hops" => hops(table),
-        _ => moves_alone(table, word),
-    }
-}
-
-/// How copies move, by a document.
-fn moves(table: &Table) -> Result<Moves, What>
-    ensures { Gives (λ m. m) result (moves_in (table_view table.now)) }
-{
-    match value(table, Key::Moves) {
-        None => without_hop(table, Moves::EachSendDrains),
-        Some(value) => moves_by(table, text(Key::Moves, value)?),
-    }
-}
-
 // ---- the document
 
 /// The keys of a document.
-const TOP_KEYS: [Key; 14] = [
+const TOP_KEYS: [Key; 17] = [
     Key::Title,
     Key::Ring,
     Key::Rings,
@@ -256,6 +195,9 @@ const TOP_KEYS: [Key; 14] = [
     Key::Epoch,
     Key::Moves,
     Key::Hop,
+    Key::Rate,
+    Key::Residence,
+    Key::Switching,
     Key::Stream,
     Key::Event,
 ];
@@ -333,7 +275,7 @@ fn text_fault(fault: NoDocument) -> PlanFault
 }
 
 /// The plan that a text is: a document of TOML, of at most 16 MiB, with the keys `title`, `ring` or `rings` (by their keys),
-/// `redbox`, `address`, `mode`, `capacity` (1 to 4096, 64 where it is missing), `life_ms` (2000), `until_us`, `epoch` (0), `moves`, `hop_us`, and `stream`
+/// `redbox`, `address`, `mode`, `capacity` (1 to 4096), `life_ms` (2000), `until_us`, `epoch` (0), `moves`, `hop_us`, `rate_mbps`, `residence_us`, `switching`, and `stream`
 /// and `event`, arrays of tables. A fault is the first in this order: the text itself; a key that the document doesn't have; its own
 /// values; streams, then events, by number. Within a table comes a key that it doesn't have, and then key by key what is missing, of
 /// another type or out of its values. `NoMemory` comes where a growth was refused, in place of any other answer. Whether names are

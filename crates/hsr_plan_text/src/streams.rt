@@ -25,13 +25,13 @@ use hsr_toml::{between, is_name, items, needed, number_or, text, value};
 use std::alloc::Global;
 use toml::{Table, Value};
 
-/// The most names in a list of senders.
-const SENDER_LIMIT: usize = 4096;
+/// The most names in a list of senders, or of receivers.
+const NAME_LIMIT: usize = 4096;
 
 /// The most samples in a frame.
 const ASDU_LIMIT: u64 = 8;
 
-// ---- who sends it
+// ---- who sends it, and who needs it
 
 /// The name that a text is, as the only one of a list.
 fn only_name(alloc: Global, key: Key, text: &str) -> Result<Vec<Word>, What>
@@ -43,13 +43,13 @@ fn only_name(alloc: Global, key: Key, text: &str) -> Result<Vec<Word>, What>
     Ok(names)
 }
 
-/// Refuses a list with no item, or with more than there may be senders.
+/// Refuses a list with no item, or with more than there may be names.
 #[tactic(auto, using(crate::proofs::Senders::counted))]
 fn few(key: Key, items: &[Value]) -> Result<(), What>
     ensures { Gives (λ u.
         u) result (guard (some_few (how_many (items_view items.now))) (BadValue key)) }
 {
-    if !items.is_empty() && items.len() <= SENDER_LIMIT {
+    if !items.is_empty() && items.len() <= NAME_LIMIT {
         Ok(())
     } else {
         Err(What::BadValue(key))
@@ -479,8 +479,9 @@ fn timing(alloc: Global, kind: Kind, table: &Table) -> Result<Timing, What>
 // ---- all
 
 /// The keys of a stream.
-const STREAM_KEYS: [Key; 18] = [
+const STREAM_KEYS: [Key; 19] = [
     Key::From,
+    Key::For,
     Key::To,
     Key::Kind,
     Key::Size,
@@ -507,6 +508,17 @@ fn from(alloc: Global, table: &Table) -> Result<Vec<Word>, What>
     senders(alloc, Key::From, needed(table, Key::From)?)
 }
 
+/// Who needs a stream.
+fn receivers(alloc: Global, table: &Table) -> Result<Vec<Word>, What>
+    ensures { Gives (λ v. v.items) result (optional faults key.For [] senders
+        (table_view table.now)) }
+{
+    match value(table, Key::For) {
+        None => Ok(Vec::new(alloc)),
+        Some(value) => senders(alloc, Key::For, value),
+    }
+}
+
 /// The stream of a table.
 #[tactic(auto, unfolding(crate::specs::Streams::stream_in))]
 pub(crate) fn stream(alloc: Global, table: &Table) -> Result<Stream, What>
@@ -514,10 +526,12 @@ pub(crate) fn stream(alloc: Global, table: &Table) -> Result<Stream, What>
 {
     only(alloc, table, &STREAM_KEYS)?;
     let from = from(alloc, table)?;
+    let receivers = receivers(alloc, table)?;
     let framing = framing(alloc, table)?;
     let timing = timing(alloc, framing.kind, table)?;
     Ok(Stream {
         from,
+        receivers,
         framing,
         timing,
     })

@@ -1,10 +1,11 @@
 //! The words that texts of a plan spell.
 ghost use Rattle.std.specs.Prelude.{◌≡◌, option_map};
 ghost use Rattle.std.specs.List.{list_all};
-ghost use Rattle.hsr_plan_text.specs.Words.{hop_of, is_element, is_element_octet, is_id, is_title, is_visible, kind_named, last_number, moves_of};
-ghost use Rattle.hsr_plan_text.specs.declared.plan.Moves.TheVariants.{Hop};
+ghost use Rattle.hsr_plan_text.specs.Words.{hop_of, is_element, is_element_octet, is_id, is_title, is_visible, kind_named, last_number, moves_of, switching_of};
+ghost use Rattle.hsr_plan_text.specs.declared.plan.Moves.TheVariants.{Timed};
+ghost use Rattle.hsr_plan_text.specs.declared.plan.Transfer.TheVariants.{Hop};
 
-use crate::plan::{Kind, Moves};
+use crate::plan::{Kind, Moves, Switching, Transfer};
 use hsr_text::{decimal, word};
 
 /// The most microseconds from a copy's put to its judgement.
@@ -93,10 +94,10 @@ fn hop_of(text: &[u8]) -> Option<u64>
 
 /// That copies move by hops, by its words: so plans told it before `hop_us` was a key.
 fn moves_by_hops(text: &[u8]) -> Option<Moves>
-    ensures { result ≡ option_map (λ hop. Hop hop) (hop_of text.now) }
+    ensures { result ≡ option_map (λ hop. Timed (Hop hop)) (hop_of text.now) }
 {
     match hop_of(text) {
-        Some(hop) => Some(Moves::Hop(hop)),
+        Some(hop) => Some(Moves::Timed(Transfer::Hop(hop))),
         None => None,
     }
 }
@@ -120,6 +121,17 @@ pub(crate) fn kind_named(word: &str) -> Option<Kind>
     match word {
         "goose" => Some(Kind::Goose),
         "sv" => Some(Kind::SampledValues),
+        _ => None,
+    }
+}
+
+/// The switching of that name.
+pub(crate) fn switching_of(word: &str) -> Option<Switching>
+    ensures { result ≡ switching_of word.now }
+{
+    match word {
+        "store" => Some(Switching::Store),
+        "cut" => Some(Switching::Cut),
         _ => None,
     }
 }

@@ -26,3 +26,4 @@ mod spending;
 pub use delivery_lines::put_loss;
 pub use finding::{Finding, found, put_finding};
 pub use reporting::{put_head, put_link, put_node, report};
+pub use spending::{Spending, put_spent, spending_of};

@@ -1,13 +1,13 @@
 //! What a run spent of its tables, in the words of a report.
 ghost use Rattle.std.specs.Prelude.{◌≡◌, ◌++◌, IfOk, OnOk};
 ghost use Rattle.hsr_report.specs.Found.{IsSpending};
-ghost use Rattle.hsr_report.specs.Report.{spending_line};
+ghost use Rattle.hsr_report.specs.Report.{spending_line, spending_text};
 
 use hsr_audit::{BudgetFault, budget};
 use hsr_finished_run::Closed;
 use hsr_frame::NoMemory;
 use hsr_naming::Naming;
-use hsr_text::{put, put_count};
+use hsr_text::{put, put_count, put_number};
 use std::alloc::Global;
 
 /// What a run spent of its tables.
@@ -33,19 +33,29 @@ pub fn spending_of<const C: usize>(alloc: Global, closed: &Closed<C>) -> Result<
     }
 }
 
+/// Puts what a run spent of its tables last: a number, or why it isn't within budget. `NoMemory` if allocation fails; a front of it
+/// may stand there then.
+pub fn put_spent(text: &mut Vec<u8>, naming: &Naming, spending: Spending) -> Result<(), NoMemory>
+    ensures { OnOk result (text.new.items ≡ text.old.items
+        ++ spending_text naming.now spending) }
+{
+    match spending {
+        Spending::Within(most) => put_number(text, most as u64),
+        Spending::Late { node, place } => {
+            put(text, "late ")?;
+            naming.put_entry(text, node, place)
+        }
+        Spending::Crowded { moment } => put_count(text, b"crowded ", moment),
+    }
+}
+
 /// Puts the line of the budget (RULES, The report). `NoMemory` if allocation fails; a front of the line may stand
 /// there then.
 pub fn put_spending(text: &mut Vec<u8>, naming: &Naming, spending: Spending) -> Result<(), NoMemory>
     ensures { OnOk result (text.new.items ≡ text.old.items
         ++ spending_line naming.now spending) }
 {
-    match spending {
-        Spending::Within(most) => put_count(text, b"budget ", most as u64)?,
-        Spending::Late { node, place } => {
-            put(text, "budget late ")?;
-            naming.put_entry(text, node, place)?;
-        }
-        Spending::Crowded { moment } => put_count(text, b"budget crowded ", moment)?,
-    }
+    put(text, "budget ")?;
+    put_spent(text, naming, spending)?;
     put(text, "\n")
 }

@@ -132,7 +132,7 @@ impl<const C: usize> Running<C> {
         if octets.as_slice().len() > INJECT_LIMIT {
             return Err(WorldFault::TooLong);
         }
-        match inject_at(self.alloc, &mut self.spans, link, dir, octets) {
+        match inject_at(&mut self.spans, link, dir, octets) {
             Ok(()) => Ok(()),
             Err(fault) => Err(fault),
         }

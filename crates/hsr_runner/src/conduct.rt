@@ -127,7 +127,6 @@ fn mend<const C: usize>(
 /// Puts octets that no port sent on a link.
 fn inject_on<const C: usize>(
     rt: &impl Wait,
-    alloc: Global,
     cells: &Cells<C>,
     topology: &Topology,
     link: usize,
@@ -146,7 +145,7 @@ fn inject_on<const C: usize>(
     if octets.as_slice().len() > INJECT_LIMIT {
         return Err(WorldFault::TooLong);
     }
-    match inject(rt, alloc, cells, link, dir, octets) {
+    match inject(rt, cells, link, dir, octets) {
         Ok(()) => Ok(()),
         Err(_refused) => Err(WorldFault::NoMemory),
     }
@@ -180,7 +179,7 @@ fn obey<const C: usize>(
         Step::Cut { link } => cut(rt, cells, topology, *link),
         Step::Mend { link } => mend(rt, cells, topology, *link),
         Step::Inject { link, dir, octets } => {
-            inject_on(rt, alloc, cells, topology, *link, *dir, octets)
+            inject_on(rt, cells, topology, *link, *dir, octets)
         }
         // Each kind is named, so that a new one does not pass for an event unseen. No put, take or judge comes here.
         Step::Send { .. }

@@ -43,13 +43,12 @@ fn put<const C: usize>(
 /// Puts octets that no port sent on a link, if it is there.
 pub(crate) fn inject<const C: usize>(
     rt: &impl Wait,
-    alloc: Global,
     cells: &Cells<C>,
     link: usize,
     dir: Dir,
     octets: &Octets,
 ) -> Result<(), NoMemory> {
-    let octets = Octets::from_slice(alloc, octets.as_slice())?;
+    let octets = octets.clone()?;
     let Some(link) = cells.links.get(link) else {
         return Ok(());
     };
@@ -76,12 +75,17 @@ fn put_out<const C: usize>(
     let Some(spelled) = spelled_out(place, &entry.event, &entry.outcome, port) else {
         return Ok(());
     };
+    // What goes on as it came stands where it came, so that the copies of a send share their room.
+    let octets = match entry.event.came_as(&spelled) {
+        Some(octets) => octets,
+        None => Octets::from_spelled(alloc, &spelled)?,
+    };
     let carried = Carried {
-        probe: receipt.entry.event.probe(Probe {
+        probe: entry.event.probe(Probe {
             node: receipt.node,
             place: receipt.place,
         }),
-        octets: Octets::from_spelled(alloc, &spelled)?,
+        octets,
     };
     put(rt, cells, wire, carried)
 }

@@ -120,6 +120,7 @@ HaveOwnNumbers copies = (i j : ℕ) (b c : CaughtFields) → slice_get copies i 
 -- what came by the taps of a capture, where these interfaces are looked at
 pub record IsTapped (choice : ChoiceFields) (interfaces : List InterfaceFields) (packets : List PacketFields) (looked : List Bool) (tapped : Tapped) : Type 0 where
   pub looks : AreLookedAt choice interfaces looked
+  pub long : length tapped.tallies.items ≡ length looked
   pub tallies : AreTalliesIf looked packets tapped.tallies.items
   pub taps : AreTaps choice.taps looked packets tapped.taps.items
   pub points : tapped.points.items ≡ names_from choice looked [] 0 interfaces

@@ -4,7 +4,7 @@ ghost use Rattle.hsr_world_links.specs.Giving.{IsReady, given_lane, receipt_of};
 ghost use Rattle.hsr_world_links.specs.Views.{lane_view};
 
 use hsr_frame::{MAX_FRAME, NoMemory};
-use hsr_node::{Carried, Entry, Octets, Place, Probe, spelled_out};
+use hsr_node::{Carried, Entry, Event, Octets, Place, Probe, spelled_out};
 use hsr_tag::Spelled;
 use hsr_topology::End;
 use std::alloc::Global;
@@ -48,6 +48,18 @@ fn fitted(alloc: Global, room: &mut Vec<u8>, copy: &Spelled<'_>) -> Octets
     }
 }
 
+/// The octets of a copy that leaves in an event: those that came, where it goes on as they came.
+fn leaving(alloc: Global, room: &mut Vec<u8>, event: &Event, copy: &Spelled<'_>) -> Octets
+    requires { length copy.now ≤ vec_capacity room.old }
+    ensures { result ≡ copy.now }
+{
+    // Most copies go on from ring to ring, and so all copies of a send in a ring stand in the same room.
+    match event.came_as(copy) {
+        Some(octets) => octets,
+        None => fitted(alloc, room, copy),
+    }
+}
+
 /// The copy that leaves its node by a lane joins its outbox; `here` names the entry.
 fn add_copy(alloc: Global, lane: &mut Lane, place: &Place, here: Probe, entry: &Entry)
     requires node { lane.old.from.node ≡ here.node }
@@ -60,7 +72,7 @@ fn add_copy(alloc: Global, lane: &mut Lane, place: &Place, here: Probe, entry: &
     };
     let carried = Carried {
         probe: entry.event.probe(here),
-        octets: fitted(alloc, &mut lane.room, &copy),
+        octets: leaving(alloc, &mut lane.room, &entry.event, &copy),
     };
     // `prepare_lane` made room for one more.
     let Ok(()) = lane.outbox.push_back(carried) else {

@@ -8,7 +8,6 @@ use crate::lane::Lane;
 use hsr_link::{Dir, Link};
 use hsr_node::{Carried, Octets};
 use hsr_world_steps::WorldFault;
-use std::alloc::Global;
 
 /// A link and its two directions, each with what its ports keep.
 #[derive(Drop)]
@@ -38,7 +37,6 @@ pub fn cut_at(spans: &mut [Span], link: usize)
 /// Puts octets that no port sent onto the link of this number, in this direction. `NoMemory` if allocation fails;
 /// then nothing changes.
 pub fn inject_at(
-    alloc: Global,
     spans: &mut [Span],
     link: usize,
     dir: Dir,
@@ -51,7 +49,7 @@ pub fn inject_at(
         × (f ≡ NoMemory)) }
 {
     // A copy, since the step is borrowed and the row keeps its octets.
-    let Ok(octets) = Octets::from_slice(alloc, octets.as_slice()) else {
+    let Ok(octets) = octets.clone() else {
         return Err(WorldFault::NoMemory);
     };
     let carried = Carried {

@@ -1,4 +1,4 @@
-use Rattle.std.proofs.Common.{◌∙◌, ap, arith, subst, take, get_or}
+use Rattle.std.proofs.Common.{◌∙◌, ap, arith, subst}
 use Rattle.std.proofs.lemmas.List.{take_all}
 use Rattle.hsr_heard.specs.declared.heard.Heard.{Heard}
 use Rattle.hsr_health.specs.Whole.{AreMore, life_put, lives_of}

@@ -1,5 +1,4 @@
-use Rattle.std.proofs.Common.{◌∙◌, ap, arith, get_or}
-use Rattle.std.specs.Prelude.{slice_index}
+use Rattle.std.proofs.Common.{◌∙◌, ap, arith}
 use Rattle.hsr_health.specs.Counted.{changed}
 use Rattle.hsr_health.specs.Whole.{one_unreadable}
 use Rattle.hsr_health.proofs.Living.{unread_more}

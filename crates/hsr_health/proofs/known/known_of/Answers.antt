@@ -1,4 +1,4 @@
-use Rattle.std.proofs.Common.{◌≡◌, ℕ, ◌∙◌, [], ap, arith, length, map, subst, sym, Some}
+use Rattle.std.proofs.Common.{◌≡◌, ℕ, ◌<◌, ◌^◌, ◌∙◌, List, [], ap, arith, length, map, subst, sym, Some}
 use Rattle.hsr_health.specs.Counted.{AreSources, mark_of}
 use Rattle.std.specs.Prelude.{filter_map, slice_get}
 use Rattle.std.proofs.lemmas.Option.{slice_get-get_or, slice_get_within}
@@ -7,6 +7,8 @@ use Rattle.hsr_health.specs.declared.counts.Counts.{Counts}
 use Rattle.hsr_heard.specs.Hearing.{heard_at, those_of}
 use Rattle.hsr_health.specs.Numbering.{AreGroups, IsLedger, group_name, life_number, numbered_at}
 use Rattle.hsr_health.specs.Whole.{lanes_of, lives_of, unreadable_of}
+use Rattle.std.proofs.lemmas.List.{length-map}
+use Rattle.hsr_health.proofs.Gapping.{groups_small}
 use Rattle.hsr_health.proofs.Measuring.{alike_on, of_sources_alike, short_those}
 use Rattle.hsr_heard.specs.Subjects.{AreAbouts}
 use Rattle.hsr_sightings.specs.Ring.{Ring}
@@ -23,6 +25,15 @@ life_runs-requires c =
       short_those (heard_at c.args.ring.now) c.args.copies.now 0 c.args.copies.now,
       c.requires.caught.few,
     )
+
+pub frame_runs-requires-clause-small : goal.frame_runs-requires-clause-small
+frame_runs-requires-clause-small c =
+    let macs = c.as_slice-macs.result.now in
+    let told = c.as_slice-told.result.now in
+    let groups = c.in_ok-groups.groups.items in
+    subst (λ (l : List ℕ). (k group : ℕ) → slice_get l k ≡ Some group → group < 2 ^ 32) (sym c.as_slice-of_source.ensures.value)
+    (groups_small (map (group_name told) macs) groups c.in_ok-groups.ensures.groups (c.in_ok-groups.ensures.long ∙ sym (length-map macs (group_name told)))
+    (omega (arith, length-map macs (group_name told), ap length c.as_slice-macs.ensures.value, c.requires.few)))
 
 pub returns : goal.returns
 returns c =

@@ -4,12 +4,12 @@ use Rattle.hsr_health.specs.declared.ledger.GroupNumbers.{GroupNumbers}
 use Rattle.hsr_health.proofs.Sourcing.{changed_past, changed_put}
 use Rattle.hsr_health.proofs.ledger.count_gap.Goals as goal
 
-pub returns-then-gap-len-clause-numbers : goal.returns-then-gap-len-clause-numbers
-returns-then-gap-len-clause-numbers c =
+pub returns-then-group-len-clause-numbers : goal.returns-then-group-len-clause-numbers
+returns-then-group-len-clause-numbers c =
     let numbers = c.args.numbers.now.items in
     ap (λ (x : GroupNumbers). set numbers c.args.gap.now.group x) c.with_gap.ensures
-    ∙ changed_put (with_gap c.args.gap.now) numbers c.args.gap.now.group c.index.result.now (omega (arith, c.args.numbers.now.ok.0, c.len.ensures, c.if-gap-len.true)) c.index.ensures
+    ∙ changed_put (with_gap c.args.gap.now) numbers c.args.gap.now.group c.index.result.now (omega (arith, c.args.numbers.now.ok.0, c.len.ensures, c.if-group-len.true)) c.index.ensures
 
-pub returns-else-gap-len-clause-numbers : goal.returns-else-gap-len-clause-numbers
-returns-else-gap-len-clause-numbers c =
-    changed_past (with_gap c.args.gap.now) c.args.numbers.now.items c.args.gap.now.group (omega (arith, c.args.numbers.now.ok.0, c.len.ensures, c.if-gap-len.false))
+pub returns-else-group-len-clause-numbers : goal.returns-else-group-len-clause-numbers
+returns-else-group-len-clause-numbers c =
+    changed_past (with_gap c.args.gap.now) c.args.numbers.now.items c.args.gap.now.group (omega (arith, c.args.numbers.now.ok.0, c.len.ensures, c.if-group-len.false))

@@ -1,23 +1,17 @@
-use Rattle.std.proofs.Common.{[], ◌++◌, arith, option_to_list, refl, reverse, subst, sym}
-use Rattle.std.proofs.lemmas.List.{length-reverse}
+use Rattle.std.proofs.Common.{[], ap, arith, length, refl, subst}
 use Rattle.std.proofs.lemmas.Option.{slice_get_read}
 use Rattle.hsr_frame_groups.specs.Frames.{past_of}
 use Rattle.hsr_health.specs.Counted.{mark_of}
 use Rattle.hsr_health.specs.Numbering.{numbered_at}
-use Rattle.hsr_health.proofs.Gapping.{number_is, one_more_at_most, reverse_more}
+use Rattle.hsr_health.proofs.Gapping.{number_is, one_more_at_most}
 use Rattle.hsr_heard.proofs.Telling.{those_end, those_more}
-use Rattle.hsr_number_runs.specs.Counting.{AreRunsOf, AreSoFar}
+use Rattle.hsr_number_runs.specs.Runs.{AreRunsOf}
 use Rattle.hsr_health.proofs.ledger.frame_runs.Goals as goal
 
 pub loop-i-init : goal.loop-i-init
-loop-i-init c = ([], c.in_ok-so_far.ensures, omega arith, λ is_by_lane ring told. refl)
-
-pub put_number-requires : goal.put_number-requires
-put_number-requires c =
-    let before = c.loop-i.invariant in
-    let short = before.2 in
-    let few = c.requires.few in
-    (reverse before.0, before.1, omega (arith, length-reverse before.0, short, few))
+loop-i-init c =
+    let none = c.in_ok-so_far.ensures in
+    (omega (arith, ap length none), λ is_by_lane ring told. rw none refl)
 
 pub loop-i-preserved : goal.loop-i-preserved
 loop-i-preserved c =
@@ -29,22 +23,17 @@ loop-i-preserved c =
     let own = c.index-copies-i.result in
     let here = slice_get_read copies _ i own refl (omega arith) c.index-copies-i.is in
     let before = c.loop-i.invariant in
-    let number = c.number_if-number.result in
-    let short = before.2 in
-    let few = c.requires.few in
-    let put = c.in_ok-put_number.ensures (reverse before.0) (omega (arith, length-reverse before.0, short, few)) before.1 in (
-      before.0 ++ option_to_list number,
-      subst (AreSoFar _) (sym (reverse_more before.0 number)) put,
-      one_more_at_most before.0 _ number i refl short,
+    let number = c.number_if-number.result in (
+      one_more_at_most c.loop-i.so_far _ number i c.in_ok-so_far-2.ensures before.0,
       λ is_by_lane ring told.
-          those_more (numbered_at of_copy groups) copies i own before.0 _ _ number here
-          (number_is of_copy groups marks i _ _ own (mark_of is_by_lane ring (past_of copies i) own) _ number (told.each i own here) (omega (arith, c.requires.marks)) c.source_of-sender.ensures
+          those_more (numbered_at of_copy groups) copies i own c.loop-i.so_far _ _ number here
+          (number_is of_copy groups marks i _ _ own (mark_of is_by_lane ring (past_of copies i) own) _ number (told.each i own here) (omega (arith, c.requires.marks)) c.sender_of-sender.ensures
           c.group_of-group.ensures c.number_if-number.ensures (past_of copies i) refl refl)
-          refl (before.3 is_by_lane ring told),
+          c.in_ok-so_far-2.ensures (before.1 is_by_lane ring told),
     )
 
 pub returns : goal.returns
 returns c = λ is_by_lane ring told.
     let before = c.loop-i.invariant in
     subst (λ l. AreRunsOf l c.runs.result)
-    (those_end (numbered_at c.args.of_copy.now c.args.groups.now) c.args.copies.now c.loop-i.i before.0 _ (omega arith) (before.3 is_by_lane ring told)) (c.runs.ensures before.0 before.1)
+    (those_end (numbered_at c.args.of_copy.now c.args.groups.now) c.args.copies.now c.loop-i.i c.loop-i.so_far _ (omega arith) (before.1 is_by_lane ring told)) c.runs.ensures

@@ -1,22 +1,17 @@
-use Rattle.std.proofs.Common.{◌<◌, ◌^◌, ◌++◌, ◌∙◌, ap, arith, length, option_to_list, refl, reverse, subst, sym, take}
+use Rattle.std.proofs.Common.{◌++◌, ◌∙◌, ap, arith, length, option_to_list, refl, subst, take}
 use Rattle.std.specs.Prelude.{filter_map}
-use Rattle.std.proofs.lemmas.List.{length-reverse, length-take, take_all}
+use Rattle.std.proofs.lemmas.List.{length-take, take_all}
 use Rattle.hsr_health.specs.Numbering.{life_number}
-use Rattle.hsr_health.proofs.Gapping.{reverse_more}
 use Rattle.hsr_health.proofs.Measuring.{short_filter_map}
 use Rattle.hsr_health.proofs.Sorting.{found_more}
-use Rattle.hsr_number_runs.specs.Counting.{AreRunsOf, AreSoFar}
+use Rattle.hsr_number_runs.specs.Runs.{AreRunsOf}
 use Rattle.hsr_health.proofs.ledger.life_runs.Goals as goal
 
 pub put_number-requires : goal.put_number-requires
 put_number-requires c =
     let heard = c.args.heard.now in
     let i = c.loop-one.one-index in
-    let before = filter_map (life_number c.args.of_copy.now) (take i heard) in (
-      reverse before,
-      c.loop-one.invariant,
-      omega (arith, length-reverse before, short_filter_map (life_number c.args.of_copy.now) (take i heard), length-take i heard, c.requires),
-    )
+    omega (arith, ap length c.loop-one.invariant, short_filter_map (life_number c.args.of_copy.now) (take i heard), length-take i heard, c.requires)
 
 pub loop-one-preserved : goal.loop-one-preserved
 loop-one-preserved c =
@@ -25,14 +20,13 @@ loop-one-preserved c =
     let tell = life_number c.args.of_copy.now in
     let before = filter_map tell (take i heard) in
     let number = c.life_number.result in
-    let more = found_more tell heard i c.one-item.result before (before ++ option_to_list number) (omega arith) refl
-    (ap (λ o. before ++ option_to_list o) (c.life_number.ensures ∙ ap tell c.one-item.is)) in
-    let short : length (reverse before) < 2 ^ 31 = omega (arith, length-reverse before, short_filter_map tell (take i heard), length-take i heard, c.requires) in
-    subst (AreSoFar _) (sym (reverse_more before number) ∙ ap reverse more) (c.in_ok-put_number.ensures (reverse before) short c.loop-one.invariant)
+    c.in_ok-so_far-2.ensures ∙ ap (λ l. l ++ option_to_list number) c.loop-one.invariant
+    ∙ found_more tell heard i c.one-item.result before (before ++ option_to_list number) (omega arith) refl
+    (ap (λ o. before ++ option_to_list o) (c.life_number.ensures ∙ ap tell c.one-item.is))
 
 pub returns : goal.returns
 returns c =
     let heard = c.args.heard.now in
     let i = c.loop-one.one-index in
-    subst (λ l. AreRunsOf (filter_map (life_number c.args.of_copy.now) l) c.runs.result) (take_all i heard (omega arith))
-    (c.runs.ensures (filter_map (life_number c.args.of_copy.now) (take i heard)) c.loop-one.invariant)
+    let tell = life_number c.args.of_copy.now in
+    subst (λ l. AreRunsOf l c.runs.result) (c.loop-one.invariant ∙ ap (filter_map tell) (take_all i heard (omega arith))) c.runs.ensures

@@ -7,6 +7,8 @@ use Rattle.hsr_taps.specs.Came.{AreInOrder, ArePackets, IsTapped}
 use Rattle.hsr_health.specs.Loads.{AreLoads}
 use Rattle.hsr_health.specs.Whole.{IsInTime, end_by, moment_or}
 use Rattle.hsr_health.proofs.Capturing.{in_order_from, own_numbers_from}
+use Rattle.hsr_taps.specs.Tallies.{AreLookedAt}
+use Rattle.hsr_health.proofs.Loading.{loads_looked}
 use Rattle.hsr_health.proofs.traffic.traffic_of.Goals as goal
 
 pub tap-requires-clause-packets : goal.tap-requires-clause-packets
@@ -32,6 +34,12 @@ returns c =
     let tapped = c.in_ok-tapped.tapped in
     let loads = c.in_ok-loads.loads.items in
     let packets = ap (λ (x : CaptureFields). x.packets) c.capture.view_is in
+    let interfaces = c.args.capture.interfaces in
+    let by_number = c.as_slice-by_number.ensures.value ∙ ap (λ (x : CaptureFields). x.interfaces) c.capture.view_is in
+    let looked = c.in_ok-looked.looked.items in
+    let looks = subst (λ l. AreLookedAt choice l looked) by_number c.in_ok-looked.ensures in
+    let tap_is = subst (λ l. IsTapped choice l sorted c.in_ok-tapped.ensures.0 tapped) by_number
+    (subst (λ l. IsTapped choice c.as_slice-by_number.result.now l c.in_ok-tapped.ensures.0 tapped) c.as_slice-in_order.ensures.value c.in_ok-tapped.ensures.1) in
     record {
       packets = sorted;
       in_time = subst (λ l. IsInTime l sorted) packets c.in_ok-sorted.ensures;
@@ -45,8 +53,8 @@ returns c =
         is_short = ap (λ (x : CaptureFields). x.is_short) c.capture.view_is;
       };
       looked = c.in_ok-tapped.ensures.0;
-      tapped = subst (λ l. IsTapped choice l sorted c.in_ok-tapped.ensures.0 tapped) (c.as_slice-by_number.ensures.value ∙ ap (λ (x : CaptureFields). x.interfaces) c.capture.view_is)
-          (subst (λ l. IsTapped choice c.as_slice-by_number.result.now l c.in_ok-tapped.ensures.0 tapped) c.as_slice-in_order.ensures.value c.in_ok-tapped.ensures.1);
-      loads = subst (λ l. AreLoads l sorted loads) (c.as_slice-2.ensures.value ∙ c.in_ok-looked.ensures)
-          (subst (λ l. AreLoads c.as_slice-2.result.now l loads) c.as_slice-in_order.ensures.value c.in_ok-loads.ensures.loads);
+      tapped = tap_is;
+      loads = loads_looked choice interfaces looked c.in_ok-tapped.ensures.0 sorted tapped.tallies.items loads looks tap_is.looks tap_is.tallies tap_is.long
+          (c.in_ok-loads.ensures.long ∙ ap length c.as_slice-2.ensures.value)
+          (subst (λ l. AreLoads l sorted loads) c.as_slice-2.ensures.value (subst (λ l. AreLoads c.as_slice-2.result.now l loads) c.as_slice-in_order.ensures.value c.in_ok-loads.ensures.loads));
     }

@@ -1,6 +1,6 @@
 use Rattle.std.proofs.Common.{rules}
 use Rattle.std.proofs.lemmas.List.Sorted.{answers_always}
-use Rattle.hsr_heard.specs.Subjects.{key_of}
+use Rattle.hsr_heard.specs.Finding.{key_of}
 use Rattle.hsr_heard.proofs.abouts.by_about.Goals as goal
 
 pub returns-clause-sorted : goal.returns-clause-sorted

@@ -1,6 +1,6 @@
 use Rattle.std.proofs.Common.{ap, arith, refl, sym, ◌∙◌}
 use Rattle.std.proofs.lemmas.Option.{same_Some, slice_get_read, slice_get_within}
-use Rattle.hsr_heard.specs.Subjects.{key_of}
+use Rattle.hsr_heard.specs.Finding.{key_of}
 use Rattle.hsr_heard.proofs.Sorted.{run_made, same_more}
 use Rattle.hsr_heard.proofs.abouts.end_of_run.Goals as goal
 

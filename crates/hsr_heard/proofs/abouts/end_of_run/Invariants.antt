@@ -1,7 +1,7 @@
 use Rattle.std.proofs.Common.{◌≡◌, ℕ, ◌<◌, ◌≤◌, Some}
 use Rattle.std.specs.Prelude.{slice_get}
 use Rattle.hsr_frame.specs.Address.{IsAddress}
-use Rattle.hsr_heard.specs.Subjects.{key_of}
+use Rattle.hsr_heard.specs.Finding.{key_of}
 use Rattle.hsr_heard.specs.declared.heard.Heard.{Heard}
 use Rattle.hsr_heard.proofs.abouts.end_of_run.Given as goal
 

@@ -1,6 +1,7 @@
 use Rattle.std.proofs.Common.{◌≡◌, ◌-◌, ◌≤◌, ◌++◌, drop}
 use Rattle.std.specs.Prelude.{slice_get}
-use Rattle.hsr_heard.specs.Subjects.{moment_of, steps_from, steps_of}
+use Rattle.hsr_heard.specs.Finding.{moment_of}
+use Rattle.hsr_heard.specs.Subjects.{steps_from, steps_of}
 use Rattle.hsr_heard.proofs.abouts.steps_of.Given as goal
 
 -- those so far and those that are left are all

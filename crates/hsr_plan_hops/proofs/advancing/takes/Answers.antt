@@ -10,7 +10,7 @@ does-requires g c = (
   (
     c.requires.idle.begun,
     (
-      takes_at g.row.C c.args.us c.args.told.now c.args.weaving.now.orders c.args.weaving.now.stage c.args.copy _ c.requires.time c.requires.idle.begun.begins c.requires.idle.settled c.requires.next c.requires.over
+      takes_at g.row.C c.args.transfer c.args.told.now.topology.links c.args.weaving.now.stage c.args.copy _ c.requires.idle.settled c.requires.next c.requires.now c.requires.first
           (ap (λ (i : Inside g.row.C). i.stage.told) c.weaving-inside.view_is ∙ ap (λ (w : Woven). w.stage.told) c.weaving.view_is),
       refl,
     ),

@@ -7,7 +7,7 @@ use Rattle.hsr_plan_hops.proofs.weaving.puts_all.Given as goal
 
 abbrev pub invariant-loop-port : goal.invariant-loop-port
 invariant-loop-port g l = record {
-  begun : IsBegun g.row.C l.us l.told l.weaving;
+  begun : IsBegun g.row.C l.transfer l.told l.weaving;
   due : l.weaving.stage.due ≡ Puts l.node;
   lower : HasPutBelow g.row.C l.weaving.stage.world l.node l.port;
   told_on : l.weaving.stage.told ≡ l.fn.weaving.stage.told;

@@ -61,6 +61,7 @@ returns c =
       looked,
       record {
         looks = looks;
+        long = c.in_ok-told.ensures.long;
         tallies = tallies_are looked packets tallies c.in_ok-told.told.items (c.in_ok-told.ensures.long ∙ sym c.in_ok-tallies.ensures.long) c.in_ok-tallies.ensures.tallies
             (subst (λ l. AreTalliesBy looked l c.in_ok-told.told.items) counted c.in_ok-told.ensures.tallies);
         taps = taps_are choice.taps looked packets tallies taps taps_is c.in_ok-tallies.ensures.tallies;

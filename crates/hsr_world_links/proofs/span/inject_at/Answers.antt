@@ -8,4 +8,4 @@ pub returns-in-Ok-inject-clause-ok : goal.returns-in-Ok-inject-clause-ok
 returns-in-Ok-inject-clause-ok c = on_span_seen (inject_span c.args.dir c.args.octets.now) c.args.spans.now c.args.link _ c.index-spans-link.result c.requires
     (let span = get_or c.args.spans.now c.args.link c.index-spans-link.result in
     ap (λ (l : Link). record (span_view span) { link = l }) (ap (λ p. p.1) c.in-Ok-inject.ensures.ok)
-    ∙ ap (λ (o : List ℕ). inject_span c.args.dir o (span_view span)) (c.in-Ok.ensures ∙ c.as_slice.ensures))
+    ∙ ap (λ (o : List ℕ). inject_span c.args.dir o (span_view span)) c.in-Ok.ensures.cases)

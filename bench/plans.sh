@@ -1,0 +1,37 @@
+#!/bin/sh
+# Times `hsr_plan run` of twenty merging units over two seconds (160,000 sends), and `hsr_plan sweep` of a ring of 64 with 10,000 sends, each
+# link and each node off in turn: on all processors, and on one.
+# Usage: bench/plans.sh [HSR_PLAN], or that of bin/. It needs python3 and GNU's /usr/bin/time.
+set -eu
+here=$(cd "$(dirname "$0")/.." && pwd)
+plan=${1:-$here/bin/hsr_plan}
+work=$(mktemp -d)
+trap 'rm -rf "$work"' EXIT
+
+# ring NODES SENDERS COUNT MOVES: a ring in which some nodes sample 4000 times a second
+ring() {
+  python3 - "$@" <<'EOF'
+import sys
+
+nodes, senders, count = map(int, sys.argv[1:4])
+quoted = lambda numbers: ", ".join(f'"n{number}"' for number in numbers)
+print(f'ring = [{quoted(range(nodes))}]\nmoves = "{sys.argv[4]}"\nlife_ms = 0')
+print(f'[[stream]]\nfrom = [{quoted(number * nodes // senders for number in range(senders))}]\nto = "01-0C-CD-04-00-01"')
+print(f'type = "sv"\nsmp_rate = 4000\ncount = {count}')
+EOF
+}
+
+# measure WHAT PLAN WORD..: the status is 2 where something is in doubt
+measure() {
+  what=$1 text=$2; shift 2
+  /usr/bin/time -q -f "$what: %e s, %U s and %S s of processor time, %M KB at most" "$@" <"$work/$text" >"$work/$what" || [ $? = 2 ]
+}
+
+ring 20 20 8000 "each moment drains" >"$work/units.toml"
+ring 64 10 1000 "each send drains" >"$work/ring.toml"
+measure run units.toml "$plan" run
+tail -n 1 "$work/run"
+measure sweep ring.toml "$plan" sweep
+measure sweep-on-one ring.toml taskset -c 0 "$plan" sweep
+cmp "$work/sweep" "$work/sweep-on-one"
+echo "$(wc -l <"$work/sweep") lines, the same on one: $(tail -n 3 "$work/sweep" | cut -c 1-60 | paste -sd ';')"

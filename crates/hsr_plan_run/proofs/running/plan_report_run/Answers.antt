@@ -1,0 +1,8 @@
+use Rattle.hsr_table_size.specs.Sizes.{capacity_of}
+use Rattle.hsr_plan_run.proofs.Whole.{run_whole}
+use Rattle.hsr_plan_run.proofs.running.plan_report_run.Goals as goal
+
+pub returns-in-Ok : goal.returns-in-Ok
+returns-in-Ok g c =
+    run_whole (g.R.Read.remaining c.args.reader.now) c.in-Ok.octets.items c.as_slice.result.now (capacity_of c.args.table) c.args.question _ _ _ _ c.answer.result c.in-Ok.ensures
+    c.as_slice.ensures.value c.answer.ensures
