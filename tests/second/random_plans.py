@@ -542,7 +542,7 @@ def check_paced(plan, scenario, table):
 
 
 def sends_told(meaning):
-    """The moments of the sends that a plan by hops tells: of a RedBox about each station, known or not."""
+    """The moments of the sends that a plan by hops or wires tells: of a RedBox about each station, known or not."""
     for at, step in wanted_deeds(meaning):
         if step["do"] in ("send", "life"):
             yield from [at] * (1 + len(meaning.redboxes.get(step["node"], [])) * (step["do"] == "life"))
@@ -556,9 +556,12 @@ def room(plan, scenario):
     if hop := hop_of(plan):
         moments, way = list(sends_told(Meaning(plan))), 2 * len(scenario["link"]) * hop
         most = max((place + 1 - bisect_left(moments, at - way) for place, at in enumerate(moments)), default=0)
+    elif is_paced(plan):
+        # on wires a send may wait for as long as there is room
+        most = len(list(sends_told(Meaning(plan))))
     for step in scenario["step"]:
         sends = 0 if step["do"] == "drain" else sends + (step["do"] in ("send", "life"))
-        most = max(most, 0 if hop else sends)
+        most = max(most, 0 if is_paced(plan) else sends)
     return max(64, min(most, 4096))
 
 
