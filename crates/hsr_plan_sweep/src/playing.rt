@@ -105,8 +105,10 @@ fn collected<T: Threads + Sync>(
         (λ plays. ArePlayed (plan_of swept.now.text) swept.now.ground cases.now plays.items)
         (λ trouble. IsKnown trouble → IsUnplayedAmong (plan_of swept.now.text) swept.now.ground cases.now)) }
 {
+    // A case is a whole run, so even two of them are worth two threads.
     cases
         .par_iter()
+        .with_min_len(1)
         .map(
             |case: &Case| -> Result<Played, Trouble>
                 ensures { TellsCase (plan_of swept.entry.now.text) swept.entry.now.ground case.now result }

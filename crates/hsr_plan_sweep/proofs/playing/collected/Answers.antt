@@ -11,5 +11,5 @@ returns g c =
     let said = plan_of c.args.swept.now.text in
     let ground = c.args.swept.now.ground in
     IfOk-then c.collect.result _ _ c.collect.ensures (λ v h.
-    let chain = rw (c.map.ensures.base, c.map.ensures.f) at h.1 in
+    let chain = rw (c.map.ensures.base, c.map.ensures.f, c.with_min_len.ensures.base) at h.1 in
     all_told said ground c.args.cases.now h.0 v (slice-AllZip chain.0 c.args.cases.now (chain.1 ∙ c.par_iter.ensures) (TellsCase said ground) h.0 chain.2) h.2)
