@@ -14,7 +14,7 @@ from lib.running import Job, Tally, wait
 from lib.scenarios import ring, storm
 
 SECONDS = 120
-ROOM, ROOM_OF_THREADS = 1_000_000 * 1024, 6_000_000 * 1024
+ROOM, ROOM_OF_SWEEPS, ROOM_OF_THREADS = 1_000_000 * 1024, 2_000_000 * 1024, 6_000_000 * 1024
 NO_LINE, NO_TEXT, NO_TRANSCRIPT = "fault: line 1", "fault: scenario top text", "fault: transcript version"
 NAMES = "explain: this is no scenario"
 NO_ANSWER = "sent 0 life 0 up 0 forwarded 0 duplicate 0 returned 0 dropped 0"
@@ -41,8 +41,10 @@ def opened(folder, given):
             writer.stdout.close()
 
 
-def bounded(room):
-    """What a program does before it starts: it takes no more room than that."""
+def bounded(room, is_sweep):
+    """What a program does before it starts: it takes no more room than that. A sweep takes that of as many runs as it has processors: of one here."""
+    if is_sweep:
+        os.sched_setaffinity(0, {min(os.sched_getaffinity(0))})
     resource.setrlimit(resource.RLIMIT_AS, (room, room))
     resource.setrlimit(resource.RLIMIT_CORE, (0, 0))
 
@@ -69,10 +71,10 @@ def command_of(setting, words):
 
 def ended(setting, words, given):
     """The status and last line of a run in its bounds; nothing where it doesn't end."""
-    room = ROOM_OF_THREADS if words[0] == "threads" else ROOM
+    room = ROOM_OF_THREADS if words[0] == "threads" else ROOM_OF_SWEEPS if "sweep" in words else ROOM
     with opened(setting.work, given) as source, tempfile.TemporaryFile(dir=setting.work) as output, tempfile.TemporaryFile(dir=setting.work) as error:
         command = command_of(setting, words)
-        process = subprocess.Popen(command, stdin=source, stdout=output, stderr=error, cwd=ROOT, preexec_fn=lambda: bounded(room))
+        process = subprocess.Popen(command, stdin=source, stdout=output, stderr=error, cwd=ROOT, preexec_fn=lambda: bounded(room, "sweep" in words))
         return (process.returncode, last_line(output, error)) if wait(process, SECONDS) else (None, "")
 
 
@@ -196,7 +198,7 @@ def jobs_of_plans():
         Job(try_rows, (planned("a million senders", f"5:1 {senders}"), inputs.many_senders, 1_000_000), 4),
         Job(try_rows, (planned("4096 senders of a million frames", f"4:3 {sends}"), inputs.many_senders, 4096), 2),
         Job(try_rows, (planned("2000 streams of a million frames", f"10:3 {sends}"), inputs.many_streams), 2),
-        Job(try_rows, ([("200,000 streams", ["hsr_plan", "sweep"], 0, "needed 1")], inputs.many_small_streams), 20),
+        Job(try_rows, ([("200,000 streams", ["hsr_plan", "sweep"], 0, "budget crowded 0")], inputs.many_small_streams), 20),
     ]
 
 
