@@ -2,7 +2,11 @@
 //!
 //! Its modules, in the order in which to read them:
 //! - `sends`: when a scenario's orders send
-//! - `spelling`: how a scenario is spelled in TOML
+//! - `naming`: how it spells addresses, the names of nodes and their ports
+//! - `places`: how it spells nodes and links
+//! - `steps`: how it spells steps, and how long their lines are
+//! - `front`: what stands before the steps
+//! - `spelling`: how a whole scenario is spelled in TOML
 //! - `same`: whether a scenario is what a plan means
 //! - `checking`: the text of a plan's scenario, checked against what the plan means
 //! - `input`: the line that tells why a text isn't read
@@ -12,13 +16,17 @@
 #![tactic(auto)]
 
 mod checking;
+mod front;
 mod input;
 mod judging;
 mod meant;
+mod naming;
+mod places;
 mod planning;
 mod same;
 mod sends;
 mod spelling;
+mod steps;
 
 pub use checking::{Trouble, moved, scenario_of_meaning, scenario_of_plan};
 pub use hsr_text::{InputFault, read_text};

@@ -1,6 +1,6 @@
 use Rattle.std.proofs.Common.{rules, ◌≡◌, length}
 use Rattle.hsr_plan_scenario.proofs.Orders.{measured_end}
-use Rattle.hsr_plan_scenario.proofs.spelling.measured_orders.Goals as goal
+use Rattle.hsr_plan_scenario.proofs.steps.measured_orders.Goals as goal
 
 pub returns : goal.returns
 returns c =

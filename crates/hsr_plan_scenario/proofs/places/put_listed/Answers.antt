@@ -1,6 +1,6 @@
 use Rattle.std.proofs.Common.{rules, ◌<◌, ◌∙◌, length}
 use Rattle.hsr_plan_scenario.proofs.Growing.{listed_more}
-use Rattle.hsr_plan_scenario.proofs.spelling.put_listed.Goals as goal
+use Rattle.hsr_plan_scenario.proofs.places.put_listed.Goals as goal
 
 pub loop-i-preserved : goal.loop-i-preserved
 loop-i-preserved c =

@@ -1,7 +1,7 @@
 use Rattle.std.proofs.Common.{rules, ◌<◌, [], length}
 use Rattle.hsr_plan_scenario.specs.Spelled.{link_line}
 use Rattle.hsr_plan_scenario.proofs.Growing.{numbered_more}
-use Rattle.hsr_plan_scenario.proofs.spelling.put_link_lines.Goals as goal
+use Rattle.hsr_plan_scenario.proofs.places.put_link_lines.Goals as goal
 
 pub loop-number-preserved : goal.loop-number-preserved
 loop-number-preserved c =

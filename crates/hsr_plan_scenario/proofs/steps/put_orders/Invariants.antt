@@ -1,6 +1,6 @@
 use Rattle.std.proofs.Common.{◌≡◌, ◌++◌, length}
 use Rattle.hsr_plan_scenario.specs.Spelled.{order_lines}
-use Rattle.hsr_plan_scenario.proofs.spelling.put_orders.Given as goal
+use Rattle.hsr_plan_scenario.proofs.steps.put_orders.Given as goal
 
 abbrev pub invariant-loop-order : goal.invariant-loop-order
 invariant-loop-order l =

@@ -1,7 +1,7 @@
 use Rattle.std.proofs.Common.{rules, ◌<◌, ap, length}
 use Rattle.hsr_plan_scenario.specs.Spelled.{mac_text}
 use Rattle.hsr_plan_scenario.proofs.Growing.{listed_more}
-use Rattle.hsr_plan_scenario.proofs.spelling.put_listed_macs.Goals as goal
+use Rattle.hsr_plan_scenario.proofs.places.put_listed_macs.Goals as goal
 
 pub loop-i-preserved : goal.loop-i-preserved
 loop-i-preserved c =
