@@ -1,14 +1,12 @@
 //! The verdict on a plan, over a reader and two writers.
-ghost use Rattle.std.specs.Prelude.{◌≡◌, ◌⊎◌, IfErr, IfOk, IfSome, IsOk};
-ghost use Rattle.std.specs.Io.KnownBytes.{Appends};
+ghost use Rattle.std.specs.Prelude.{IfErr, IfOk, IfSome, IsOk};
 ghost use Rattle.hsr_table_size.specs.Sizes.{capacity_of};
-ghost use Rattle.hsr_plan_scenario.specs.declared.planning.Ending.TheVariants.{Unwritten};
 ghost use Rattle.hsr_plan_certify.specs.Ends.{CertifyEnds, IsToldIn, IsUncertifiable};
 
 use crate::question::Question;
-use crate::verdict::{Told, told_of};
+use crate::verdict::told_of;
 use hsr_plan_scenario::{
-    Ending, Line, Trouble, complain, deliver, fail, line_of, read_text, words,
+    Ending, Line, Told, Trouble, complain, fail, give, line_of, read_text, words,
 };
 use hsr_plan_text::{TEXT_LIMIT, read};
 use hsr_table_size::TableSize;
@@ -26,17 +24,6 @@ fn told_in(alloc: Global, table: TableSize, octets: &[u8], question: Question) -
     match read(alloc, text) {
         Ok(plan) => told_of(alloc, table, text, &plan, question),
         Err(fault) => Err(line_of(alloc, text, &Trouble::Plan(fault))),
-    }
-}
-
-/// Writes the words of a verdict.
-fn give<W: Write>(writer: &mut W, told: &Told) -> Ending
-    ensures { (result ≡ Unwritten) ⊎ ((result ≡ told.now.ending)
-        × Appends (W.contents writer.old) (W.contents writer.new) told.now.text.items) }
-{
-    match deliver(writer, told.text.as_slice()) {
-        Ending::Planned => told.ending,
-        _ => Ending::Unwritten,
     }
 }
 

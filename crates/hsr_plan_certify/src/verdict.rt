@@ -14,18 +14,11 @@ use crate::words::put_told;
 use hsr_certify_text::{Verdict, found, make_coarse};
 use hsr_frame::NoMemory;
 use hsr_plan_outages::put_outages;
-use hsr_plan_scenario::{Ending, Line, Trouble, line_of, moved};
+use hsr_plan_scenario::{Ending, Line, Told, Trouble, line_of, moved};
 use hsr_plan_schedule::Meaning;
 use hsr_plan_text::Plan;
 use hsr_table_size::{TableSize, at_size};
 use std::alloc::Global;
-
-/// The line of a verdict, and how a run ends that writes it.
-#[derive(Drop)]
-pub(crate) struct Told {
-    pub text: Vec<u8>,
-    pub ending: Ending,
-}
 
 /// How a run ends that writes a verdict.
 fn ending_of(verdict: Verdict) -> Ending

@@ -32,5 +32,5 @@ pub use checking::{Trouble, moved, scenario_of_meaning, scenario_of_plan};
 pub use hsr_text::{InputFault, read_text};
 pub use judging::check_run;
 pub use meant::{node_names, run_meant};
-pub use planning::{Ending, Line, complain, deliver, fail, line_of, plan_run, words};
+pub use planning::{Ending, Line, Told, complain, fail, give, line_of, plan_run, words};
 pub use same::streams_meant;

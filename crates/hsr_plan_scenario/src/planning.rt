@@ -1,5 +1,5 @@
 //! The whole way from a plan's text to its scenario's, over a reader and two writers.
-ghost use Rattle.std.specs.Prelude.{◌≡◌, ◌≢◌, ◌&&◌, ◌==◌, ◌++◌, IfErr, IfOk, IfSome, IsOk, OnOk, codes, nat_le, not, true};
+ghost use Rattle.std.specs.Prelude.{◌≡◌, ◌≢◌, ◌⊎◌, ◌&&◌, ◌==◌, ◌++◌, IfErr, IfOk, IfSome, IsOk, OnOk, codes, nat_le, not, true};
 ghost use Rattle.std.specs.Io.KnownBytes.{Appends};
 ghost use Rattle.hsr_duptable.specs.Table.{IsTableSize};
 ghost use Rattle.hsr_plan_text.specs.Words.{is_title};
@@ -7,7 +7,7 @@ ghost use Rattle.hsr_plan_text.specs.declared.fault.What.TheVariants.{NoMemory a
 ghost use Rattle.hsr_plan_scenario.specs.Ends.{Ends, IsDelivered, TellsFault, TellsInput, TellsWhy, code_of};
 ghost use Rattle.hsr_plan_scenario.specs.Refusals.{IsKnown, IsUnplanned};
 ghost use Rattle.hsr_plan_scenario.specs.Says.{SaysPlan};
-ghost use Rattle.hsr_plan_scenario.specs.declared.planning.Ending.TheVariants.{Failed, Refused};
+ghost use Rattle.hsr_plan_scenario.specs.declared.planning.Ending.TheVariants.{Failed, Refused, Unwritten};
 
 use crate::checking::{Trouble, scenario_of_plan};
 use crate::input::input_line;
@@ -187,8 +187,8 @@ pub fn complain<E: Write>(alloc: Global, errors: &mut E, line: Line) -> io::Resu
     }
 }
 
-/// Writes a scenario.
-pub fn deliver<W: Write>(writer: &mut W, text: &[u8]) -> Ending
+/// Writes a text, and flushes it.
+fn deliver<W: Write>(writer: &mut W, text: &[u8]) -> Ending
     ensures { IsDelivered (W.contents writer.old) (W.contents writer.new) text.now result }
 {
     // A flush that fails is a failed write: what stood in a buffer isn't there.
@@ -196,6 +196,24 @@ pub fn deliver<W: Write>(writer: &mut W, text: &[u8]) -> Ending
         return Ending::Unwritten;
     }
     Ending::Planned
+}
+
+/// A text to write, and how a run ends that writes it.
+#[derive(Drop)]
+pub struct Told {
+    pub text: Vec<u8>,
+    pub ending: Ending,
+}
+
+/// Writes a text. `Unwritten` where that fails, else what is said beside it.
+pub fn give<W: Write>(writer: &mut W, told: &Told) -> Ending
+    ensures { (result ≡ Unwritten) ⊎ ((result ≡ told.now.ending)
+        × Appends (W.contents writer.old) (W.contents writer.new) told.now.text.items) }
+{
+    match deliver(writer, told.text.as_slice()) {
+        Ending::Planned => told.ending,
+        _ => Ending::Unwritten,
+    }
 }
 
 /// Writes the scenario that octets mean as a plan, or the line of what is wrong.

@@ -1,8 +1,6 @@
 //! The sweep of a plan, over a reader and two writers.
-ghost use Rattle.std.specs.Prelude.{◌≡◌, ◌⊎◌, false, IfErr, IfOk, IfSome, IsOk, Ok};
-ghost use Rattle.std.specs.Io.KnownBytes.{Appends};
+ghost use Rattle.std.specs.Prelude.{◌≡◌, false, IfErr, IfOk, IfSome, IsOk, Ok};
 ghost use Rattle.hsr_plan_text.specs.Meaning.{plan_of};
-ghost use Rattle.hsr_plan_scenario.specs.declared.planning.Ending.TheVariants.{Unwritten};
 ghost use Rattle.hsr_plan_sweep.specs.Refusals.{IsKnown, IsUnplayedAmong, IsUnsweepable, IsUnswept, cases_in, ground, is_behind};
 ghost use Rattle.hsr_plan_sweep.specs.Runs.{ArePlayed};
 ghost use Rattle.hsr_plan_sweep.specs.Swept.{IsNamingOf, IsSwept, IsSweptPlan, SweepEnds, TellsPlays, TellsSweep, ending_of};
@@ -19,21 +17,14 @@ use hsr_frame::NoMemory;
 use hsr_naming::{Names, Naming};
 use hsr_plan_network::Node;
 use hsr_plan_scenario::{
-    Ending, Line, Trouble as PlanTrouble, complain, deliver, fail, line_of, node_names, read_text,
-    words,
+    Ending, Line, Told, Trouble as PlanTrouble, complain, fail, give, line_of, node_names,
+    read_text, words,
 };
 use hsr_plan_schedule::{Meaning, meaning_of};
 use hsr_plan_text::{Key, Plan, PlanFault, Refusal, Spot, TEXT_LIMIT, What, read};
 use std::alloc::Global;
 use std::io::{self, Read, Write};
 use std::thread::Threads;
-
-/// The lines of a sweep, and whether something is in doubt.
-#[derive(Drop)]
-struct Told {
-    text: Vec<u8>,
-    ending: Ending,
-}
 
 // ---- faults
 
@@ -252,17 +243,6 @@ fn swept<T: Threads + Sync, E: Write>(
     match read(alloc, text) {
         Ok(plan) => swept_plan(rt, alloc, text, &plan, asked, is_shown, errors),
         Err(fault) => Err(line_of(alloc, text, &PlanTrouble::Plan(fault))),
-    }
-}
-
-/// Writes the lines of a sweep.
-fn give<W: Write>(writer: &mut W, told: &Told) -> Ending
-    ensures { (result ≡ Unwritten) ⊎ ((result ≡ told.now.ending)
-        × Appends (W.contents writer.old) (W.contents writer.new) told.now.text.items) }
-{
-    match deliver(writer, told.text.as_slice()) {
-        Ending::Planned => told.ending,
-        _ => Ending::Unwritten,
     }
 }
 
