@@ -1,5 +1,9 @@
 mod Begun
+mod Ends
 mod Listing
+mod Missed
 mod Next
 mod OnWay
+mod Queues
+mod Rows
 mod Told

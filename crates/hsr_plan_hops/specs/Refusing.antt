@@ -4,7 +4,7 @@
 --     IsUnmovable    copies can't be moved at a transfer
 --     IsUnmoved      a plan means nothing, once its copies move
 --     IsImmovable    so it is though it means something as it is told
-use Rattle.std.specs.Prelude.{ℕ, ◌^◌, ◌≡◌, ◌<◌, ◌⊎◌, nat_le, nat_lt, Bool, true, false, List, [], ◌∷◌, length, Some, None, Err, ⊤}
+use Rattle.std.specs.Prelude.{ℕ, ◌-◌, ◌^◌, ◌≡◌, ◌<◌, ◌⊎◌, nat_le, nat_lt, Bool, true, false, List, [], ◌∷◌, length, Some, None, Err, ⊤}
 use Rattle.hsr_topology.specs.declared.end.End.{End}
 use Rattle.hsr_scenario.specs.declared.steps.Order.{Order}
 use Rattle.hsr_scenario.specs.declared.steps.Order.TheVariants.{Step, Drain}
@@ -75,11 +75,11 @@ comes_first now [] a = true
 comes_first now (Step (Clock at) ∷ told) a = nat_le a.at at
 comes_first now (order ∷ told) a = nat_le a.at now
 
--- the next copy came to its end at a moment that is past; or it comes to its end now, where something that is told was done, as it may at the
--- last moment that there is
+-- the next copy comes to its end at the last moment that there is, and that isn't to come any more
 pub record IsMissed (transfer : Transfer) (links : List (List End)) (s : Stage) : Type 0 where
   pub copy : Arrival
   pub next : next_copy transfer links s ≡ Some copy
+  pub last : copy.at ≡ 2 ^ 64 - 1
   pub missed : is_to_come s.moment s.begun copy.at ≡ false
 
 -- what comes next can't be done, or no port is there to judge what was taken

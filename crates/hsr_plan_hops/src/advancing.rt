@@ -111,7 +111,7 @@ fn lands<const C: usize>(
     ensures err { IfErr result (IsUnmovedAtPace C transfer told.now) }
 {
     if !is_to_come(weaving.stage.moment, weaving.stage.begun, copy.at) {
-        // Nothing brings back a moment that is past.
+        // Only at the last moment that there is, at which all comes to its end that would do so later.
         return Err(Unmoved::Differs);
     }
     if weaving.stage.moment < copy.at {
