@@ -1,7 +1,7 @@
 -- What a picture of a finished run shows.
 --     IsPicture   its panels, arrows and sends
 --     IsRefused   why there is none
-use Rattle.std.specs.Prelude.{◌≡◌, ◌≤◌, ◌<◌, true, false, List, length, map, filter, Option}
+use Rattle.std.specs.Prelude.{ℕ, ◌≡◌, ◌≤◌, ◌<◌, true, false, List, length, map, filter, Option}
 use Rattle.hsr_node.specs.declared.event.Probe.{Probe}
 use Rattle.hsr_run_laws.specs.Run.{Run}
 use Rattle.hsr_finished_run.specs.declared.planned.Planned.{Planned}
@@ -37,13 +37,13 @@ pub record AreWanted (run : Run) (plan : List Planned) (sends : List Probe) (spa
   pub chosen : wanted ≡ filter (is_pictured run sends span) rows
 
 -- each row that is wanted is an arrow just once, in the order of time
-pub record IsPicture (run : Run) (plan : List Planned) (sends : List Probe) (span : Span) (picture : Picture) : Type 0 where
+pub record IsPicture (run : Run) (plan : List Planned) (sends : List Probe) (span : Span) (most : ℕ) (picture : Picture) : Type 0 where
   pub has : has_all run sends ≡ true
   pub forwards : is_reversed span ≡ false
   pub panels : ArePanels (record { places = run.places; links = run.links }) picture.panels
   pub wanted : List Shown
   pub rows : AreWanted run plan sends span wanted
-  pub few : length wanted ≤ 400
+  pub few : length wanted ≤ most
   pub stamp : Spot → Option Stamp
   pub stamps : AreStamps (origins run plan) stamp
   pub arrows : picture.arrows ≡ map (arrow_of run (hops_by_link run (length run.links)) stamp) wanted
@@ -51,12 +51,12 @@ pub record IsPicture (run : Run) (plan : List Planned) (sends : List Probe) (spa
   pub listed : picture.sends ≡ sents stamp sends span picture.deliveries
 
 -- the run hasn't a send that is asked for; the span ends before it begins; the rows have no order of time; too many are wanted
-abbrev pub IsRefused : Run → List Planned → List Probe → Span → PictureFault → Type 0
-IsRefused run plan sends span NoSend = has_all run sends ≡ false
-IsRefused run plan sends span Reversed = is_reversed span ≡ true
-IsRefused run plan sends span Circle = HasNoStory run plan
-IsRefused run plan sends span (TooMany copies) = (wanted : List Shown) × AreWanted run plan sends span wanted × (copies ≡ length wanted) × (400 < copies)
-IsRefused run plan sends span NoMemory = Unit {0}
+abbrev pub IsRefused : Run → List Planned → List Probe → Span → ℕ → PictureFault → Type 0
+IsRefused run plan sends span most NoSend = has_all run sends ≡ false
+IsRefused run plan sends span most Reversed = is_reversed span ≡ true
+IsRefused run plan sends span most Circle = HasNoStory run plan
+IsRefused run plan sends span most (TooMany copies) = (wanted : List Shown) × AreWanted run plan sends span wanted × (copies ≡ length wanted) × (most < copies)
+IsRefused run plan sends span most NoMemory = Unit {0}
 
 abbrev pub story_fault : StoryFault → PictureFault
 story_fault story.Circle = Circle

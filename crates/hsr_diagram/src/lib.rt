@@ -27,5 +27,5 @@ pub use arrow::{Arrow, Look};
 pub use panel::{Lane, Panel};
 pub use paneling::panels;
 pub use picturing::{COPY_LIMIT, Picture, PictureFault, picture_run};
-pub use sending::Sent;
+pub use sending::{Sent, is_among};
 pub use span::Span;

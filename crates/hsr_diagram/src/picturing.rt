@@ -1,5 +1,5 @@
 //! The whole picture.
-ghost use Rattle.std.specs.Prelude.{◌≡◌, ◌≤◌, length, true, false, IfErr, IfOk};
+ghost use Rattle.std.specs.Prelude.{◌≡◌, ◌≤◌, ℕ, length, true, false, IfErr, IfOk};
 ghost use Rattle.hsr_diagram.specs.Pictures.{AreWanted, IsPicture, IsRefused};
 ghost use Rattle.hsr_diagram.specs.Wanted.{has_all, is_reversed};
 
@@ -18,7 +18,7 @@ use hsr_timeline::{Shown, StoryFault, entry_stamps, story};
 use std::alloc::Global;
 use std::marker::Model;
 
-/// The most copies that a picture shows.
+/// The most copies that are drawn in one picture.
 pub const COPY_LIMIT: usize = 400;
 
 /// What a picture of a run shows: the panels of its nodes; an arrow for each row that is wanted, in the order of time;
@@ -48,7 +48,7 @@ pub enum PictureFault {
     Reversed,
     /// Entries follow one another in a circle.
     Circle,
-    /// More copies are wanted than `COPY_LIMIT`: this number.
+    /// More copies are wanted than are to be shown: this number.
     TooMany { copies: usize },
     /// Allocation failed.
     NoMemory,
@@ -88,7 +88,7 @@ fn wanted_rows<const C: usize>(
 ) -> Result<Vec<Shown>, PictureFault>
     ensures wanted { IfOk result (λ rows.
         AreWanted closed.now.run closed.now.plan sends.now span rows.items) }
-    ensures refused { IfErr result (IsRefused closed.now.run closed.now.plan sends.now span) }
+    ensures refused { (most : ℕ) → IfErr result (IsRefused closed.now.run closed.now.plan sends.now span most) }
 {
     let rows = story(alloc, closed)?;
     let wanted = pictured(alloc, closed, sends, span, rows.as_slice())?;
@@ -101,14 +101,15 @@ fn picture_of<const C: usize>(
     closed: &Closed<C>,
     sends: &[Probe],
     span: Span,
+    most: usize,
     wanted: &[Shown],
 ) -> Result<Picture, PictureFault>
     requires wanted { AreWanted closed.now.run closed.now.plan sends.now span wanted.now }
     requires has { has_all closed.now.run sends.now ≡ true }
     requires forwards { is_reversed span ≡ false }
-    requires few { length wanted.now ≤ 400 }
-    ensures picture { IfOk result (IsPicture closed.now.run closed.now.plan sends.now span) }
-    ensures refused { IfErr result (IsRefused closed.now.run closed.now.plan sends.now span) }
+    requires few { length wanted.now ≤ most }
+    ensures picture { IfOk result (IsPicture closed.now.run closed.now.plan sends.now span most) }
+    ensures refused { IfErr result (IsRefused closed.now.run closed.now.plan sends.now span most) }
 {
     let panels = panels(alloc, closed.topology())?;
     let stamps = entry_stamps(alloc, closed)?;
@@ -134,16 +135,17 @@ fn picture_of<const C: usize>(
 /// these sends (without any, of all), each just once an arrow, from the entry that passed the copy to the entry that
 /// judged it, in the order of time; panels of the nodes; and the sends, of the span or those that are asked for, each
 /// with who got it. `NoSend` where the run hasn't one of these sends, `Reversed` where the span ends before it begins,
-/// `Circle` where its rows have no order of time, `TooMany` where over `COPY_LIMIT` are wanted. `NoMemory` if
+/// `Circle` where its rows have no order of time, `TooMany` where more than `most` are wanted. `NoMemory` if
 /// allocation fails.
 pub fn picture_run<const C: usize>(
     alloc: Global,
     closed: &Closed<C>,
     sends: &[Probe],
     span: Span,
+    most: usize,
 ) -> Result<Picture, PictureFault>
-    ensures picture { IfOk result (IsPicture closed.now.run closed.now.plan sends.now span) }
-    ensures refused { IfErr result (IsRefused closed.now.run closed.now.plan sends.now span) }
+    ensures picture { IfOk result (IsPicture closed.now.run closed.now.plan sends.now span most) }
+    ensures refused { IfErr result (IsRefused closed.now.run closed.now.plan sends.now span most) }
 {
     if !has_all(closed, sends) {
         return Err(PictureFault::NoSend);
@@ -153,10 +155,10 @@ pub fn picture_run<const C: usize>(
     }
     let wanted = wanted_rows(alloc, closed, sends, span)?;
     // Refused here, before arrows and deliveries are looked for.
-    if wanted.len() > COPY_LIMIT {
+    if wanted.len() > most {
         return Err(PictureFault::TooMany {
             copies: wanted.len(),
         });
     }
-    picture_of(alloc, closed, sends, span, wanted.as_slice())
+    picture_of(alloc, closed, sends, span, most, wanted.as_slice())
 }

@@ -18,8 +18,8 @@ pub struct Sent {
     pub start: Option<Stamp>,
 }
 
-/// Whether a send is one of these.
-fn is_among(sends: &[Probe], send: Probe) -> bool
+/// Whether a send is one of these, by its node and its place.
+pub fn is_among(sends: &[Probe], send: Probe) -> bool
     ensures { result ≡ is_among sends.now send }
 {
     // The index is used by the loop's invariant alone.

@@ -86,7 +86,7 @@ pub record IsUndrawn (names : List (List ℕ)) (f : Finished) (asked : List (Bor
   pub meant : AreSends names asked sends
   pub why : PictureFault
   pub is : fault ≡ picture_fault why
-  pub refused : IsRefused f.run f.plan sends span why
+  pub refused : IsRefused f.run f.plan sends span 400 why
 
 -- the rows of the run tell this where none is shown; or they have no order of time; or there was no memory
 abbrev pub TellsNothing : Finished → Fault → Type 0
@@ -98,7 +98,7 @@ pub record IsBlank (names : List (List ℕ)) (f : Finished) (asked : List (Bor (
   pub sends : List Probe
   pub meant : AreSends names asked sends
   pub picture : Picture
-  pub shows : IsPicture f.run f.plan sends span picture
+  pub shows : IsPicture f.run f.plan sends span 400 picture
   pub none : length picture.arrows ≡ 0
   pub told : TellsNothing f fault
 

@@ -85,7 +85,7 @@ pub record IsPictured (names : List (List ℕ)) (f : Finished) (scenario : Optio
   pub sends : List Probe
   pub meant : AreSends names asked sends
   pub picture : Picture
-  pub shows : IsPicture f.run f.plan sends span picture
+  pub shows : IsPicture f.run f.plan sends span 400 picture
   pub some : 0 < length picture.arrows
   pub steps : List Order
   pub are_steps : AreSteps f.plan scenario steps

@@ -17,7 +17,7 @@ use crate::fault::{Extent, Fault, Moments, fault_of_read};
 use crate::views::What;
 use hsr_capture::capture;
 use hsr_devices::devices;
-use hsr_diagram::{Span, picture_run};
+use hsr_diagram::{COPY_LIMIT, Span, picture_run};
 use hsr_diagram_layout::drawing;
 use hsr_downs::{downs, switches};
 use hsr_finished_run::Closed;
@@ -180,7 +180,7 @@ fn picture_of<const C: usize>(
         ⊎ IsBlank (lists_of names.now) closed.now sends.now span fault))) }
 {
     let probes = probes_of(alloc, names, sends)?;
-    let picture = picture_run(alloc, closed, probes.as_slice(), span)?;
+    let picture = picture_run(alloc, closed, probes.as_slice(), span, COPY_LIMIT)?;
     // An empty picture would look like a quiet network.
     if picture.arrows.is_empty() {
         return Err(blank_of(alloc, closed));
