@@ -1,3 +1,4 @@
 pub mod Changes
+pub mod Drains
 pub mod Downs
 pub mod Switches

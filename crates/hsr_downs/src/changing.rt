@@ -39,7 +39,7 @@ fn change_by(moment: u64, planned: usize, order: &Order) -> Option<Change>
 }
 
 /// The greatest moment that was set, behind a step.
-fn moment_after(moment: u64, order: &Order) -> u64
+pub(crate) fn moment_after(moment: u64, order: &Order) -> u64
     ensures { result ≡ moment_after moment order.now }
 {
     match order {
@@ -59,7 +59,7 @@ fn is_planned(order: &Order) -> bool
 }
 
 /// How much is planned, with one more step.
-fn planned_after(planned: usize, order: &Order) -> usize
+pub(crate) fn planned_after(planned: usize, order: &Order) -> usize
     requires { planned + 1 < 2 ^ 64 }
     ensures { result ≡ planned_after planned order.now }
 {
