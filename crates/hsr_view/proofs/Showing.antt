@@ -8,9 +8,9 @@ use Rattle.hsr_topology.specs.Topology.{Topology}
 use Rattle.hsr_finished_run.specs.Finished.{Finished}
 use Rattle.hsr_timeline.specs.Fronts.{lists_of}
 use Rattle.hsr_devices.specs.Listing.{IsListing}
-use Rattle.hsr_view.specs.Viewing.{AreNames, IsCaptureOf, IsPictured, IsSend, IsShown, Shows, topology_of}
+use Rattle.hsr_view.specs.Viewing.{AreNames, IsCaptureOf, IsPaged, IsPictured, IsSend, IsShown, Shows, topology_of}
 use Rattle.hsr_view.specs.declared.views.What.{What}
-use Rattle.hsr_view.specs.declared.views.What.TheVariants.{Capture, Devices, Picture}
+use Rattle.hsr_view.specs.declared.views.What.TheVariants.{Capture, Devices, Page, Picture}
 use Rattle.hsr_diagram.specs.declared.span.Span.{Span}
 use Rattle.hsr_view.specs.declared.fault.Fault.{Fault}
 
@@ -48,3 +48,12 @@ module _ (f : Finished) (t : Topology) (scenario : Option (List ℕ)) (names : N
       let Q : Names → Type 0 = λ ns. IsCaptureOf (lists_of ns) f (record { link = link; send = probe }) octets.items in
       let S : What → Type 0 = λ w. Shows (lists_of names) f scenario w octets.items in
       record { names = lists_of names; named = named_there f t scenario names places links named; shows = subst S (sym is) (probe, subst P first sends, subst Q second capture) }
+
+  pub shown_page : (what : What) (one : Names) (sends : Vec (Bor (List ℕ) × ℕ) Global) (list : List (Bor (List ℕ) × ℕ)) (span : Span) (title : Bor (List ℕ)) (r : Result (Vec ℕ Global) Fault) →
+      what ≡ Page sends span title → one ≡ names → list ≡ sends.items → IfOk r (λ octets. IsPaged (lists_of one) f scenario title.now list span octets.items) → IfOk r (λ octets. IsShown f what scenario octets.items)
+  shown_page what one sends list span title (Err fault) is first second page = tt
+  shown_page what one sends list span title (Ok octets) is first second page =
+      let P : Names → Type 0 = λ ns. IsPaged (lists_of ns) f scenario title.now list span octets.items in
+      let Q : List (Bor (List ℕ) × ℕ) → Type 0 = λ xs. IsPaged (lists_of names) f scenario title.now xs span octets.items in
+      let S : What → Type 0 = λ w. Shows (lists_of names) f scenario w octets.items in
+      record { names = lists_of names; named = named_there f t scenario names places links named; shows = subst S (sym is) (subst Q second (subst P first page)) }

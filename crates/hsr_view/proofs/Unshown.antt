@@ -8,10 +8,13 @@ use Rattle.hsr_topology.specs.Topology.{Topology}
 use Rattle.hsr_finished_run.specs.Finished.{Finished}
 use Rattle.hsr_timeline.specs.Fronts.{lists_of}
 use Rattle.hsr_diagram.specs.declared.span.Span.{Span}
-use Rattle.hsr_view.specs.Refusals.{HasStray, IsBlank, IsStray, IsUncaptured, IsUndrawn, IsUnshown, IsUnshownBy}
+use Rattle.hsr_timeline.specs.Causes.{origins}
+use Rattle.hsr_timeline.specs.Stamps.{HasNoStamps}
+use Rattle.hsr_view.specs.Fault.{page_fault, picture_fault}
+use Rattle.hsr_view.specs.Refusals.{IsStray, IsUncaptured, IsUnpicturedIn, IsUnshown, IsUnshownBy}
 use Rattle.hsr_view.specs.Viewing.{AreNames, IsSend}
 use Rattle.hsr_view.specs.declared.views.What.{What}
-use Rattle.hsr_view.specs.declared.views.What.TheVariants.{Capture, Picture}
+use Rattle.hsr_view.specs.declared.views.What.TheVariants.{Capture, Page, Picture}
 use Rattle.hsr_view.specs.declared.fault.Fault.{Fault}
 use Rattle.hsr_view.specs.declared.fault.Fault.TheVariants as fault
 use Rattle.hsr_view.proofs.Showing.{Names, named_there}
@@ -38,11 +41,23 @@ module _ (f : Finished) (t : Topology) (scenario : Option (List ℕ)) (names : N
 
   pub unshown_picture : (what : What) (one : Names) (sends : Vec (Bor (List ℕ) × ℕ) Global) (list : List (Bor (List ℕ) × ℕ)) (span : Span) (r : Result (Vec ℕ Global) Fault) →
       what ≡ Picture sends span → one ≡ names → list ≡ sends.items →
-      IfErr r (λ why. (why ≡ fault.Memory) ⊎ (((why ≡ fault.Send) × HasStray (lists_of one) list) ⊎ (IsUndrawn (lists_of one) f list span why ⊎ IsBlank (lists_of one) f list span why))) → IfErr r (IsUnshown f what scenario)
+      IfErr r (λ why. (why ≡ fault.Memory) ⊎ IsUnpicturedIn (lists_of one) f list span 400 picture_fault why) → IfErr r (IsUnshown f what scenario)
   unshown_picture what one sends list span (Ok octets) is first second undrawn = tt
   unshown_picture what one sends list span (Err why) is first second (inl memory) = inl memory
   unshown_picture what one sends list span (Err why) is first second (inr undrawn) =
-      let P : Names → Type 0 = λ ns. ((why ≡ fault.Send) × HasStray (lists_of ns) list) ⊎ (IsUndrawn (lists_of ns) f list span why ⊎ IsBlank (lists_of ns) f list span why) in
-      let Q : List (Bor (List ℕ) × ℕ) → Type 0 = λ xs. ((why ≡ fault.Send) × HasStray (lists_of names) xs) ⊎ (IsUndrawn (lists_of names) f xs span why ⊎ IsBlank (lists_of names) f xs span why) in
+      let P : Names → Type 0 = λ ns. IsUnpicturedIn (lists_of ns) f list span 400 picture_fault why in
+      let Q : List (Bor (List ℕ) × ℕ) → Type 0 = λ xs. IsUnpicturedIn (lists_of names) f xs span 400 picture_fault why in
       let S : What → Type 0 = λ w. IsUnshownBy (lists_of names) f w why in
       by_names what why (subst S (sym is) (subst Q second (subst P first undrawn)))
+
+  pub unshown_page : (what : What) (one : Names) (sends : Vec (Bor (List ℕ) × ℕ) Global) (list : List (Bor (List ℕ) × ℕ)) (span : Span) (title : Bor (List ℕ)) (r : Result (Vec ℕ Global) Fault) →
+      what ≡ Page sends span title → one ≡ names → list ≡ sends.items →
+      IfErr r (λ why. (why ≡ fault.Memory) ⊎ (IsUnpicturedIn (lists_of one) f list span 6000 page_fault why ⊎ ((why ≡ fault.Circle) × HasNoStamps (origins f.run f.plan)))) → IfErr r (IsUnshown f what scenario)
+  unshown_page what one sends list span title (Ok octets) is first second unpaged = tt
+  unshown_page what one sends list span title (Err why) is first second (inl memory) = inl memory
+  unshown_page what one sends list span title (Err why) is first second (inr unpaged) =
+      let C : Type 0 = (why ≡ fault.Circle) × HasNoStamps (origins f.run f.plan) in
+      let P : Names → Type 0 = λ ns. IsUnpicturedIn (lists_of ns) f list span 6000 page_fault why ⊎ C in
+      let Q : List (Bor (List ℕ) × ℕ) → Type 0 = λ xs. IsUnpicturedIn (lists_of names) f xs span 6000 page_fault why ⊎ C in
+      let S : What → Type 0 = λ w. IsUnshownBy (lists_of names) f w why in
+      by_names what why (subst S (sym is) (subst Q second (subst P first unpaged)))

@@ -21,7 +21,7 @@ use Rattle.hsr_given.specs.declared.given.Given.{Given}
 use Rattle.hsr_view.specs.declared.fault.Fault.{Fault}
 use Rattle.hsr_view.specs.declared.fault.Extent.{Extent}
 use Rattle.hsr_view.specs.declared.fault.Moments.{Moments}
-use Rattle.hsr_view.specs.declared.fault.Fault.TheVariants.{Transcript, Other, Names, Link, Send, Moments as Reversed, Copies, NoCopies, NoneAsked, Circle, TooLong, Read, Write, Memory}
+use Rattle.hsr_view.specs.declared.fault.Fault.TheVariants.{Transcript, Other, Names, Link, Send, Moments as Reversed, Copies, PageCopies, NoCopies, NoneAsked, Circle, TooLong, Read, Write, Memory}
 
 -- why a text isn't read
 abbrev pub read_line : ReadFault → List ℕ
@@ -53,6 +53,7 @@ fault_line Link = codes "fault: link"
 fault_line Send = codes "fault: send"
 fault_line Reversed = codes "fault: moments"
 fault_line (Copies n) = codes "fault: copies " ++ (decimal n ++ codes ", and a picture shows 400: choose by --send, --from or --until")
+fault_line (PageCopies n) = codes "fault: copies " ++ (decimal n ++ codes ", and a page shows 6000: choose by --send, --from or --until")
 fault_line NoCopies = codes "fault: nothing to show: the run has no copies"
 fault_line (NoneAsked extent) =
     codes "fault: nothing to show: copies " ++ (extent_text extent ++ codes ", and none is asked for: change --link, --send, --from or --until")
@@ -88,6 +89,11 @@ picture_fault picture.Reversed = Reversed
 picture_fault picture.Circle = Circle
 picture_fault (picture.TooMany copies) = Copies copies
 picture_fault picture.NoMemory = Memory
+
+-- the same of a page, which shows more copies
+abbrev pub page_fault : PictureFault → Fault
+page_fault (picture.TooMany copies) = PageCopies copies
+page_fault why = picture_fault why
 
 -- ---- rows of which none is asked for
 

@@ -13,6 +13,8 @@ use Rattle.hsr_finished_run.specs.Finished.{Finished}
 use Rattle.hsr_scenario.specs.Names.{NamesMeant, names_meant}
 use Rattle.hsr_scenario.specs.declared.fault.ScenarioFault.{ScenarioFault}
 use Rattle.hsr_timeline.specs.Choice.{checked, is_wanted}
+use Rattle.hsr_timeline.specs.Causes.{origins}
+use Rattle.hsr_timeline.specs.Stamps.{HasNoStamps}
 use Rattle.hsr_timeline.specs.Story.{HasNoStory, IsStory}
 use Rattle.hsr_timeline.specs.declared.choice.Choice.{Choice}
 use Rattle.hsr_timeline.specs.declared.choice.ChoiceFault.TheVariants as choice
@@ -23,7 +25,7 @@ use Rattle.hsr_diagram.specs.declared.picturing.PictureFault.{PictureFault}
 use Rattle.hsr_diagram.specs.declared.span.Span.{Span}
 use Rattle.hsr_transcript.specs.Answers.{Answers, IsTextOf}
 use Rattle.hsr_transcript.specs.declared.fault.ReadFault.{ReadFault}
-use Rattle.hsr_view.specs.Fault.{nothing_fault, picture_fault, fault_of_read}
+use Rattle.hsr_view.specs.Fault.{nothing_fault, page_fault, picture_fault, fault_of_read}
 use Rattle.hsr_view.specs.Viewing.{AreNames, AreSends, IsSend, leaves_none, probe_of, topology_of}
 use Rattle.hsr_view.specs.declared.views.What.{What}
 use Rattle.hsr_view.specs.declared.views.What.TheVariants as asked
@@ -80,13 +82,13 @@ IsUncaptured names f wanted TooLong = IsTooLong names f wanted
 IsUncaptured names f wanted Memory = Unit {0}
 IsUncaptured names f wanted _ = ⊥
 
--- the sends that are meant can't be pictured
-pub record IsUndrawn (names : List (List ℕ)) (f : Finished) (asked : List (Bor (List ℕ) × ℕ)) (span : Span) (fault : Fault) : Type 0 where
+-- the sends that are meant can't be pictured, where so many copies are the most; why is told so
+pub record IsUndrawn (names : List (List ℕ)) (f : Finished) (asked : List (Bor (List ℕ) × ℕ)) (span : Span) (most : ℕ) (told : PictureFault → Fault) (fault : Fault) : Type 0 where
   pub sends : List Probe
   pub meant : AreSends names asked sends
   pub why : PictureFault
-  pub is : fault ≡ picture_fault why
-  pub refused : IsRefused f.run f.plan sends span 400 why
+  pub is : fault ≡ told why
+  pub refused : IsRefused f.run f.plan sends span most why
 
 -- the rows of the run tell this where none is shown; or they have no order of time; or there was no memory
 abbrev pub TellsNothing : Finished → Fault → Type 0
@@ -94,11 +96,11 @@ TellsNothing f fault =
     (fault ≡ Memory) ⊎ (((fault ≡ Circle) × HasNoStory f.run f.plan) ⊎ ((rows : List Shown) × IsStory f.run f.plan rows × (fault ≡ nothing_fault rows)))
 
 -- there is such a picture, and it shows no copy
-pub record IsBlank (names : List (List ℕ)) (f : Finished) (asked : List (Bor (List ℕ) × ℕ)) (span : Span) (fault : Fault) : Type 0 where
+pub record IsBlank (names : List (List ℕ)) (f : Finished) (asked : List (Bor (List ℕ) × ℕ)) (span : Span) (most : ℕ) (fault : Fault) : Type 0 where
   pub sends : List Probe
   pub meant : AreSends names asked sends
   pub picture : Picture
-  pub shows : IsPicture f.run f.plan sends span 400 picture
+  pub shows : IsPicture f.run f.plan sends span most picture
   pub none : length picture.arrows ≡ 0
   pub told : TellsNothing f fault
 
@@ -111,11 +113,17 @@ IsStray names (Some asked) = probe_of names asked ≡ None
 abbrev pub HasStray : List (List ℕ) → List (Bor (List ℕ) × ℕ) → Type 0
 HasStray names asked = (i : ℕ) × (one : Bor (List ℕ) × ℕ) × (slice_get asked i ≡ Some one) × (probe_of names one ≡ None)
 
+-- one of the sends is of no node; or they can't be pictured, where so many copies are the most, or their picture shows none
+abbrev pub IsUnpicturedIn : List (List ℕ) → Finished → List (Bor (List ℕ) × ℕ) → Span → ℕ → (PictureFault → Fault) → Fault → Type 0
+IsUnpicturedIn names f asked span most told fault =
+    ((fault ≡ Send) × HasStray names asked) ⊎ (IsUndrawn names f asked span most told fault ⊎ IsBlank names f asked span most fault)
+
 -- with these names it can't be shown
 abbrev pub IsUnshownBy : List (List ℕ) → Finished → What → Fault → Type 0
 IsUnshownBy names f (asked.Capture link send) fault =
     ((fault ≡ Send) × IsStray names send) ⊎ ((probe : Option Probe) × IsSend names send probe × IsUncaptured names f (record { link = link; send = probe }) fault)
-IsUnshownBy names f (asked.Picture sends span) fault = ((fault ≡ Send) × HasStray names sends.items) ⊎ (IsUndrawn names f sends.items span fault ⊎ IsBlank names f sends.items span fault)
+IsUnshownBy names f (asked.Picture sends span) fault = IsUnpicturedIn names f sends.items span 400 picture_fault fault
+IsUnshownBy names f (asked.Page sends span title) fault = IsUnpicturedIn names f sends.items span 6000 page_fault fault ⊎ ((fault ≡ Circle) × HasNoStamps (origins f.run f.plan))
 IsUnshownBy names f asked.Devices fault = ⊥
 
 -- names are asked for and not taken, or what is asked for can't be shown with those that are; or there was no memory

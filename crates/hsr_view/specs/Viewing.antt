@@ -4,6 +4,7 @@
 --     IsSend        the send that words mean
 --     AreSends      the sends that words mean
 --     IsPictured    the drawing of a picture of what is wanted
+--     IsPaged       the page of what is wanted
 --     IsShownOf     what is shown of the text of a run
 use Rattle.std.specs.Prelude.{ℕ, ◌≡◌, ◌<◌, ◌==◌, ◌&&◌, ◌||◌, Bool, false, List, map, filter, length, Ok, [], Option, Some, None, is_some, option_map}
 use Rattle.hsr_node.specs.declared.event.Probe.{Probe}
@@ -20,8 +21,10 @@ use Rattle.hsr_capture.specs.Capture.{capture}
 use Rattle.hsr_capture.specs.Fits.{Fits}
 use Rattle.hsr_devices.specs.Listing.{IsListing}
 use Rattle.hsr_downs.specs.Downs.{downs}
+use Rattle.hsr_downs.specs.Drains.{drains}
 use Rattle.hsr_downs.specs.Switches.{switches}
 use Rattle.hsr_diagram_layout.specs.Drawing.{IsDrawing}
+use Rattle.hsr_run_page.specs.Whole.{IsPageWith}
 use Rattle.hsr_run_laws.specs.Run.{Run}
 use Rattle.hsr_transcript.specs.Answers.{IsTextOf}
 use Rattle.std.specs.Borrow.{Bor}
@@ -91,15 +94,29 @@ pub record IsPictured (names : List (List ℕ)) (f : Finished) (scenario : Optio
   pub are_steps : AreSteps f.plan scenario steps
   pub drawn : IsDrawing names f.run picture (downs steps) (switches f.run.links steps) octets
 
+-- ---- pages
+
+-- What is asked for is there, a page shows some of it, with what the steps of a scenario say of links that are down and of drains.
+pub record IsPaged (names : List (List ℕ)) (f : Finished) (scenario : Option (List ℕ)) (title : List ℕ) (asked : List (Bor (List ℕ) × ℕ)) (span : Span) (octets : List ℕ) : Type 0 where
+  pub sends : List Probe
+  pub meant : AreSends names asked sends
+  pub picture : Picture
+  pub shows : IsPicture f.run f.plan sends span 6000 picture
+  pub some : 0 < length picture.arrows
+  pub steps : List Order
+  pub are_steps : AreSteps f.plan scenario steps
+  pub page : IsPageWith names f title sends span (downs steps) (drains steps) picture octets
+
 -- ---- all that can be asked for
 
 abbrev pub topology_of : Run → Topology
 topology_of run = record { places = run.places; links = run.links }
 
--- with these names this is the capture that is wanted, the drawing of the picture, or the list of devices
+-- with these names this is the capture that is wanted, the drawing of the picture, the page, or the list of devices
 abbrev pub Shows : List (List ℕ) → Finished → Option (List ℕ) → What → List ℕ → Type 0
 Shows names f scenario (asked.Capture link send) octets = (probe : Option Probe) × IsSend names send probe × IsCaptureOf names f (record { link = link; send = probe }) octets
 Shows names f scenario (asked.Picture sends span) octets = IsPictured names f scenario sends.items span octets
+Shows names f scenario (asked.Page sends span title) octets = IsPaged names f scenario title.now sends.items span octets
 Shows names f scenario asked.Devices octets = IsListing names f.run octets
 
 pub record IsShown (f : Finished) (what : What) (scenario : Option (List ℕ)) (octets : List ℕ) : Type 0 where

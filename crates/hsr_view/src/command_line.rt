@@ -53,6 +53,24 @@ docs/GUIDE.md shows how a picture is read; docs/REFERENCE.md has the look of eac
 Examples: hsr_bench run --transcript < scenario.toml | hsr_view picture --names scenario.toml > run.svg
           hsr_view picture --send n0:3 --send n1:0 --from 5000 --until 9000 < run.transcript > run.svg";
 
+const PAGE_ENDS: &str = "\
+The page is one file of HTML that stands alone: it loads nothing, and any browser opens it from a disk. It shows the
+network as it is wired, a slider and keys that move through the run, copies as they travel, what each node's tables hold
+then, the list of sends with a filter, and the report of hsr_bench audit --network --deliveries --needed --budget, each
+line with what it means. With --names the names of nodes stand there, and when links are down and all is drained: that is
+told by the scenario. No octets of payloads are in it.
+
+With --send only the copies of that send are there; it may be given several times. With --from and --until only those
+of some moments, in microseconds, both included. A page shows 6000 copies at most.
+
+Status 1: nothing is written, and one line on standard error says why: as with `hsr_view picture`, but that `fault: copies
+N, ..` is told of over 6000.
+
+docs/GUIDE.md shows how a page is read; docs/REFERENCE.md has its parts and keys, and each fault.
+
+Examples: hsr_bench run --transcript < scenario.toml | hsr_view page --names scenario.toml > run.html
+          hsr_view page --title \"Ring 2, link 3 cut\" --send n0:3 < run.transcript > run.html";
+
 const DEVICES_ENDS: &str = "\
 Of each node: what it is; where each port leads; how many copies came in there and what became of them, how many
 went out, their octets, and how many were lost on their way, with the node's own counters in the last column; how
@@ -176,6 +194,35 @@ fn picture_command<'a>(alloc: Global) -> Result<Command<'a>, NoMemory> {
     Ok(command)
 }
 
+fn page_command<'a>(alloc: Global) -> Result<Command<'a>, NoMemory> {
+    let send = value_arg(
+        alloc,
+        "send",
+        "NODE:PLACE",
+        "Only the copies of this send, or of these",
+    );
+    let title = "What stands at its head (HSR run if it isn't there)";
+    let command = Command::new(alloc, "page")
+        .about("Writes the transcript on standard input as a page of HTML that stands alone")
+        .after_help(PAGE_ENDS)
+        .arg(names_arg(alloc))?
+        .arg(value_arg(alloc, "title", "TEXT", title))?
+        .arg(send.action(ArgAction::Append))?
+        .arg(value_arg(
+            alloc,
+            "from",
+            "MOMENT",
+            "Only the copies from this moment on",
+        ))?
+        .arg(value_arg(
+            alloc,
+            "until",
+            "MOMENT",
+            "Only the copies until this moment",
+        ))?;
+    Ok(command)
+}
+
 fn devices_command<'a>(alloc: Global) -> Result<Command<'a>, NoMemory> {
     let command = Command::new(alloc, "devices")
         .about("Lists the devices of the transcript on standard input, with their counters")
@@ -192,6 +239,7 @@ fn view_command<'a>(alloc: Global) -> Result<Command<'a>, NoMemory> {
         .subcommand_required(true)
         .subcommand(capture_command(alloc)?)?
         .subcommand(picture_command(alloc)?)?
+        .subcommand(page_command(alloc)?)?
         .subcommand(devices_command(alloc)?)?;
     Ok(command)
 }
@@ -277,6 +325,18 @@ fn picture_in<'a>(alloc: Global, matches: &ArgMatches<'a>) -> Result<What<'a>, O
     })
 }
 
+/// The page that arguments ask for.
+fn page_in<'a>(alloc: Global, matches: &ArgMatches<'a>) -> Result<What<'a>, OptionFault> {
+    let sends = sends_of(alloc, matches)?;
+    let from = moment_of(alloc, matches, "from", NO_FROM)?;
+    let until = moment_of(alloc, matches, "until", NO_UNTIL)?;
+    Ok(What::Page {
+        sends,
+        span: Span { from, until },
+        title: matches.get_str("title").unwrap_or("HSR run"),
+    })
+}
+
 /// What the arguments of a subcommand ask for.
 fn asked_in<'a>(
     alloc: Global,
@@ -287,8 +347,10 @@ fn asked_in<'a>(
         What::Devices
     } else if name == "picture" {
         picture_in(alloc, matches)?
+    } else if name == "page" {
+        page_in(alloc, matches)?
     } else {
-        // Clap takes three subcommands, so this one is `capture`.
+        // Clap takes four subcommands, so this one is `capture`.
         let link = link_of(alloc, matches)?;
         let send = send_of(alloc, matches)?;
         What::Capture { link, send }

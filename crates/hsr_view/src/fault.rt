@@ -1,6 +1,6 @@
 //! Why nothing is shown.
 ghost use Rattle.std.specs.Prelude.{◌≡◌, Some};
-ghost use Rattle.hsr_view.specs.Fault.{extent_text, fault_line, moments_text, fault_of_read};
+ghost use Rattle.hsr_view.specs.Fault.{extent_text, fault_line, moments_text, fault_of_read, page_fault};
 
 use hsr_capture::BlockFault;
 use hsr_diagram::PictureFault;
@@ -57,10 +57,12 @@ pub enum Fault {
     Link,
     /// There is no such send.
     Send,
-    /// The moments until which a picture goes are before those from which it does.
+    /// The moments until which a picture or a page goes are before those from which it does.
     Moments,
     /// A picture of too many copies is asked for: of this number.
     Copies { copies: usize },
+    /// A page of too many copies is asked for: of this number.
+    PageCopies { copies: usize },
     /// The run has no copies.
     NoCopies,
     /// The run has these copies, and none of them is asked for.
@@ -147,6 +149,16 @@ impl From<PictureFault> for Fault {
     }
 }
 
+/// Why there is no page of what a picture would show.
+pub(crate) fn page_fault(refused: PictureFault) -> Fault
+    ensures { result ≡ page_fault refused }
+{
+    match refused {
+        PictureFault::TooMany { copies } => Fault::PageCopies { copies },
+        other => Fault::from(other),
+    }
+}
+
 /// Why a text is none of a finished run; where it is one that another program knows, with what it is.
 pub(crate) fn fault_of_read(fault: ReadFault, given: Option<Given>) -> Fault
     ensures { result ≡ fault_of_read fault given }
@@ -201,6 +213,10 @@ impl fmt::Display for Fault {
             Fault::Copies { copies } => write!(
                 f,
                 "fault: copies {copies}, and a picture shows 400: choose by --send, --from or --until"
+            ),
+            Fault::PageCopies { copies } => write!(
+                f,
+                "fault: copies {copies}, and a page shows 6000: choose by --send, --from or --until"
             ),
             Fault::NoCopies => write!(f, "fault: nothing to show: the run has no copies"),
             Fault::NoneAsked { extent } => write!(

@@ -1,10 +1,11 @@
-//! The program `hsr_view`: a transcript shown as a capture, as a picture, or as devices, over a reader and two writers; and
+//! The program `hsr_view`: a transcript shown as a capture, as a picture, as a page, or as devices, over a reader and two writers; and
 //! what its arguments ask for.
 //!
 //! Its modules, in the order in which to read them:
 //! - `views`: what can be asked for
 //! - `agreeing`: when links are down, by the scenario of the run
 //! - `fault`: why nothing is shown, and the line that says it
+//! - `paging`: the page of a run
 //! - `viewing`: what is shown of a text
 //! - `running`: the whole, its calls
 //! - `asked`: what the arguments ask for
@@ -18,6 +19,7 @@ mod agreeing;
 mod asked;
 mod command_line;
 mod fault;
+mod paging;
 mod running;
 mod viewing;
 mod views;

@@ -4,16 +4,17 @@ ghost use Rattle.hsr_duptable.specs.Table.{IsTableSize};
 ghost use Rattle.hsr_timeline.specs.Fronts.{lists_of};
 ghost use Rattle.hsr_table_size.specs.Sizes.{capacity_of};
 ghost use Rattle.hsr_transcript.specs.Answers.{Answers, IsTextOf};
-ghost use Rattle.hsr_view.specs.Fault.{nothing_fault, fault_of_read};
+ghost use Rattle.hsr_view.specs.Fault.{nothing_fault, fault_of_read, picture_fault};
 ghost use Rattle.hsr_given.specs.Given.{given_of};
 ghost use Rattle.hsr_head.specs.Reads.{front};
 ghost use Rattle.hsr_head.specs.Told.{told_size};
-ghost use Rattle.hsr_view.specs.Refusals.{HasStray, IsBlank, IsMisnamed, IsStray, IsUncaptured, IsUndrawn, IsUnshown, IsUnshownOf, IsUnshownWith, TellsNothing};
+ghost use Rattle.hsr_view.specs.Refusals.{HasStray, IsMisnamed, IsStray, IsUncaptured, IsUnpicturedIn, IsUnshown, IsUnshownOf, IsUnshownWith, TellsNothing};
 ghost use Rattle.hsr_view.specs.Viewing.{AreNames, AreSends, IsCaptureOf, IsPictured, IsSend, IsShown, IsShownOf, leaves_none, probe_of};
 ghost use Rattle.hsr_view.specs.declared.fault.Fault.TheVariants.{Memory, Send};
 
 use crate::agreeing::{is_memory, steps_of};
 use crate::fault::{Extent, Fault, Moments, fault_of_read};
+use crate::paging::page_of;
 use crate::views::What;
 use hsr_capture::capture;
 use hsr_devices::devices;
@@ -129,7 +130,11 @@ fn probe_of(names: &[Vec<u8>], send: &(&str, usize)) -> Result<Probe, Fault>
 }
 
 /// The sends that nodes' names and places mean, in their order; `Send` where no node has a name.
-fn probes_of(alloc: Global, names: &[Vec<u8>], sends: &[(&str, usize)]) -> Result<Vec<Probe>, Fault>
+pub(crate) fn probes_of(
+    alloc: Global,
+    names: &[Vec<u8>],
+    sends: &[(&str, usize)],
+) -> Result<Vec<Probe>, Fault>
     ensures known { IfOk result (λ probes. AreSends (lists_of names.now) sends.now probes.items) }
     ensures stray { IfErr result (λ fault. (fault ≡ Memory) ⊎ ((fault ≡ Send)
         × HasStray (lists_of names.now) sends.now)) }
@@ -151,7 +156,7 @@ fn add(probes: &mut Vec<Probe>, probe: Probe) -> Result<(), NoMemory>
 }
 
 /// Why a picture of a run shows nothing.
-fn blank_of<const C: usize>(alloc: Global, closed: &Closed<C>) -> Fault
+pub(crate) fn blank_of<const C: usize>(alloc: Global, closed: &Closed<C>) -> Fault
     ensures { TellsNothing closed.now result }
 {
     match story(alloc, closed) {
@@ -175,9 +180,7 @@ fn picture_of<const C: usize>(
     ensures picture { IfOk result (λ octets. IsPictured (lists_of names.now) closed.now
         (option_map (λ s. s.now) scenario.entry) sends.now span octets.items) }
     ensures undrawn { IfErr result (λ fault. (fault ≡ Memory)
-        ⊎ (((fault ≡ Send) × HasStray (lists_of names.now) sends.now) ⊎
-        (IsUndrawn (lists_of names.now) closed.now sends.now span fault
-        ⊎ IsBlank (lists_of names.now) closed.now sends.now span fault))) }
+        ⊎ IsUnpicturedIn (lists_of names.now) closed.now sends.now span 400 picture_fault fault) }
 {
     let probes = probes_of(alloc, names, sends)?;
     let picture = picture_run(alloc, closed, probes.as_slice(), span, COPY_LIMIT)?;
@@ -266,6 +269,15 @@ fn shown_of<const C: usize>(
                 scenario,
             )
         }
+        What::Page { sends, span, title } => page_of(
+            alloc,
+            closed,
+            names.as_slice(),
+            sends.as_slice(),
+            *span,
+            title,
+            scenario,
+        ),
     }
 }
 

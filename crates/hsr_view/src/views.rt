@@ -16,6 +16,12 @@ pub enum What<'a> {
         sends: Vec<(&'a str, usize)>,
         span: Span,
     },
+    /// A page: of the same copies as a picture, under a title.
+    Page {
+        sends: Vec<(&'a str, usize)>,
+        span: Span,
+        title: &'a str,
+    },
     /// The devices.
     Devices,
 }

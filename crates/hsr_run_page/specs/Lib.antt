@@ -1,0 +1,4 @@
+pub mod Entries
+pub mod Rows
+pub mod Data
+pub mod Whole
