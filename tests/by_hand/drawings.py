@@ -1,25 +1,26 @@
 #!/usr/bin/env python3
-"""drawings.py [--networks N] [--seed N] [--asked FILE | --drawn FILE]: draws random networks, and looks at each drawing.
+"""drawings.py [--networks N] [--seed N] [--programs FOLDER]: draws random networks by `hsr_view page`, and looks at each drawing.
 
 The networks have up to 64 nodes: up to six rings and lines, QuadBoxes between them (chains, trees, rings in a circle, several boxes between
 two rings, boxes in any order, a box twice in one ring), RedBoxes with their Stations, Stations at ring ports, Stations that face Stations,
-nodes without links, and several networks at once.  Each is drawn for a wide room and for a tall one, to be pressed and for paper.
+nodes without links, and several networks at once.  A page draws each twice: for a wide room and for a tall one.  A network in which nobody
+has a link has no page.
 
 Of each drawing it checks: each node and each link is drawn once; no two boxes overlap, those of nodes that are drawn twice included; all
-lies within the view box; each link begins and ends at its nodes' boxes; each link has its two lanes where nodes can be pressed, and else
-none.  It prints the number of each network of which something isn't so, and ends with status 1.
-
-    --asked FILE   writes the networks for a program that draws them, in lines `node ROLE NAME`, `link NODE PORT NODE PORT`,
-                   `draw wide|tall pressed|still` and `end`, and draws nothing
-    --drawn FILE   reads what it drew: the drawings one after the other
+lies within the view box; each link begins and ends at its nodes' boxes; each link has its two lanes.  It prints the number of each network of
+which something isn't so, and ends with status 1.
 """
 import argparse
 import random
+import pathlib
 import re
+import subprocess
 import sys
+import tempfile
 import xml.etree.ElementTree as ElementTree
 
 RING_PORTS = {'danh': 2, 'redbox': 2, 'quadbox': 4}
+PORTS = {'danh': 'AB', 'redbox': 'ABI', 'quadbox': 'ABCD', 'station': 'P'}
 
 
 class Network:
@@ -28,7 +29,7 @@ class Network:
 
     def add(self, role, name=None):
         self.roles.append(role)
-        self.names.append(name or '%s%d' % (role[:1].upper(), len(self.roles)))
+        self.names.append(name or '%s%d' % (role[:1], len(self.roles)))
         return len(self.roles) - 1
 
     def wire(self, order, is_closed, used):
@@ -51,8 +52,8 @@ class Network:
 def name_of(random_names, role, number):
     if not random_names:
         return None
-    length = random.choice([1, 2, 4, 6, 9, 14, 20])
-    return '%s_%d_%s' % (role[:2], number, 'x' * length)
+    length = random.choice([0, 2, 4, 6, 9, 14, 20, 26])
+    return '%s%d%s' % (role[:2], number, 'x' * length)
 
 
 def coupled(net, most, used):
@@ -131,10 +132,27 @@ def network():
     return net
 
 
-def asked(net, formats):
-    lines = ['node %s %s' % pair for pair in zip(net.roles, net.names)]
-    lines += ['link %d %d %d %d' % (a + b) for a, b in net.links]
-    return '\n'.join(lines + ['draw %s %s' % it for it in formats] + ['end', ''])
+def scenario(net):
+    """The network as a scenario in which one node sends; None where nobody has a link."""
+    senders = sorted({node for link in net.links for node, _ in link if net.roles[node] in ('danh', 'station')})
+    if not senders:
+        return None
+    nodes = []
+    for number, (role, name) in enumerate(zip(net.roles, net.names)):
+        address = {'quadbox': '', 'station': ', macs=["02-00-00-00-01-%02X"]'}.get(role, ', mac="02-00-00-00-00-%02X"')
+        nodes.append('  {name="%s", role="%s"%s},\n' % (name, role, address % number if address else ''))
+    end = lambda it: '%s.%s' % (net.names[it[0]], PORTS[net.roles[it[0]]][it[1]])
+    links = ['  {ends=["%s", "%s"]},\n' % (end(a), end(b)) for a, b in net.links]
+    step = '  {do="send", node="%s", to="01-00-5E-00-00-01", type=0x88B5}, {do="drain"},\n' % net.names[senders[0]]
+    return 'node = [\n%s]\nlink = [\n%s]\nstep = [\n%s]\n' % (''.join(nodes), ''.join(links), step)
+
+
+def page_of(programs, text, file):
+    """The page of a scenario's run, or the fault."""
+    file.write_text(text, encoding='utf-8')
+    run = subprocess.run([programs / 'hsr_bench', 'run', '--transcript'], input=text.encode(), capture_output=True)
+    page = subprocess.run([programs / 'hsr_view', 'page', '--names', file], input=run.stdout, capture_output=True)
+    return page.stdout.decode(), (run.stderr if run.returncode == 1 else page.stderr).decode()
 
 
 def rectangle(element):
@@ -171,7 +189,7 @@ def is_near(point, box):
     return box[0] - 1 < point[0] < box[2] + 1 and box[1] - 1 < point[1] < box[3] + 1
 
 
-def faults(net, text, is_pressed):
+def faults(net, text):
     svg = ElementTree.fromstring(text)
     boxes, twins = boxes_of(svg)
     left, top, width, height = (float(it) for it in svg.get('viewBox').split())
@@ -181,7 +199,7 @@ def faults(net, text, is_pressed):
     if links != list(range(len(net.links))):
         yield 'links'
     lanes = sorted(it.get('data-lane') for it in svg.iter('g') if it.get('data-lane'))
-    if lanes != sorted('%d%s' % (k, d) for k in range(len(net.links)) for d in 'fb' if is_pressed):
+    if lanes != sorted('%d%s' % (k, d) for k in range(len(net.links)) for d in 'fb'):
         yield 'lanes'
     all_boxes = [it for many in boxes.values() for it in many] + twins
     for k, a in enumerate(all_boxes):
@@ -201,35 +219,29 @@ def faults(net, text, is_pressed):
                     yield 'wire end'
 
 
-FORMATS = [('wide', 'pressed'), ('tall', 'still')]
-
-
 def main():
     arguments = argparse.ArgumentParser(description=__doc__, formatter_class=argparse.RawDescriptionHelpFormatter)
     arguments.add_argument('--networks', type=int, default=1500)
     arguments.add_argument('--seed', type=int, default=1)
-    arguments.add_argument('--asked')
-    arguments.add_argument('--drawn')
+    arguments.add_argument('--programs', type=pathlib.Path, default=pathlib.Path(__file__).resolve().parents[2] / 'bin')
     given = arguments.parse_args()
     random.seed(given.seed)
-    networks = [network() for _ in range(given.networks)]
-    if given.asked:
-        with open(given.asked, 'w', encoding='utf-8') as out:
-            out.writelines(asked(net, FORMATS) for net in networks)
-        return 0
-    with open(given.drawn, encoding='utf-8') as source:
-        drawings = re.findall(r'<svg.*?</svg>', source.read(), re.S)
-    if len(drawings) != len(networks) * len(FORMATS):
-        print('drawings %d of %d' % (len(drawings), len(networks) * len(FORMATS)))
-        return 1
-    wrong = 0
-    for number, text in enumerate(drawings):
-        net, (form, kind) = networks[number // len(FORMATS)], FORMATS[number % len(FORMATS)]
-        found = sorted(set(faults(net, text, kind == 'pressed')))
-        if found:
-            wrong += 1
-            print('network %d, %s: %s' % (number // len(FORMATS), form, ', '.join(found)))
-    print('%d drawings, %d with faults' % (len(drawings), wrong))
+    drawn = wrong = unlinked = 0
+    with tempfile.TemporaryDirectory() as folder:
+        for number in range(given.networks):
+            net = network()
+            text = scenario(net)
+            if text is None:
+                unlinked += 1
+                continue
+            page, fault = page_of(given.programs, text, pathlib.Path(folder) / 'scenario.toml')
+            drawings = re.findall(r'<svg class="net.*?</svg>', page, re.S)
+            found = sorted({it for drawing in drawings for it in faults(net, drawing)}) if len(drawings) == 2 else ['%d drawings %s' % (len(drawings), fault.strip())]
+            drawn += len(drawings)
+            if found:
+                wrong += 1
+                print('network %d: %s' % (number, ', '.join(found)))
+    print('%d drawings, %d networks with faults, %d without a page' % (drawn, wrong, unlinked))
     return 1 if wrong else 0
 
 
