@@ -1,6 +1,6 @@
 -- The whole, of what its parts tell.
 use Rattle.std.proofs.Common.{◌≡◌, ℕ, zero, suc, ◌<◌, Bool, true, false, cond, List, [], ◌∷◌, length, refl, sym, ap, subst, ◌∙◌, arith, Option, Some, None, Ok, Err, Result}
-use Rattle.std.specs.Prelude.{slice_get, slice_index, IfNone}
+use Rattle.std.specs.Prelude.{nat_lt, slice_get, slice_index, IfNone}
 use Rattle.std.specs.List.{cons_option}
 use Rattle.std.proofs.lemmas.List.Sorted.{length_permutation}
 use Rattle.hsr_capture_reader.specs.Capture.{CaptureFields}
@@ -11,7 +11,7 @@ use Rattle.hsr_frame_copies.specs.declared.contents.NoCopy.{NoCopy}
 use Rattle.hsr_frame_groups.specs.Frames.{CaughtFields}
 use Rattle.hsr_sightings.specs.Ring.{Ring}
 use Rattle.hsr_taps.specs.Asked.{ChoiceFields}
-use Rattle.hsr_taps.specs.Came.{stray_by, stray_in, strays_in, taps_at}
+use Rattle.hsr_taps.specs.Came.{stray_by, stray_in, strays_in, taps_at, way_by}
 use Rattle.hsr_taps.specs.Tallies.{is_at}
 use Rattle.hsr_taps.specs.declared.direction.Taps.{Taps}
 use Rattle.hsr_taps.specs.declared.tapping.Stray.{Stray}
@@ -39,6 +39,18 @@ point_below [] below direction = omega arith
 point_below (p ∷ points) below zero = below 0 p refl
 point_below (p ∷ points) below (suc direction) = point_below points (λ d q at_d. below (suc d) q at_d) direction
 
+way_small : (lane_a lane_b : ℕ) → way_by lane_a lane_b < 2
+way_small lane_a lane_b = by_case (nat_lt lane_a lane_b)
+  where
+    by_case : (b : Bool) → cond b 1 0 < 2
+    by_case true = omega arith
+    by_case false = omega arith
+
+way_below : (ways : List ℕ) → ((direction way : ℕ) → slice_get ways direction ≡ Some way → way < 2) → (direction : ℕ) → slice_index ways direction < 2
+way_below [] below direction = omega arith
+way_below (w ∷ ways) below zero = below 0 w refl
+way_below (w ∷ ways) below (suc direction) = way_below ways (λ d v at_d. below (suc d) v at_d) direction
+
 pub caught_of : (choice : ChoiceFields) (capture : CaptureFields) (traffic : Traffic) (is_whole : Bool) → IsBounded capture → IsTraffic choice capture traffic
     → AreCaught (ring_in traffic is_whole) traffic.tapped.copies.items
 caught_of choice capture traffic is_whole bounds is = record {
@@ -47,6 +59,7 @@ caught_of choice capture traffic is_whole bounds is = record {
   numbers = is.tapped.numbers;
   directions = is.tapped.directions;
   places = point_below traffic.tapped.point_of.items is.tapped.places;
+  ways = way_below traffic.tapped.way_of.items (λ direction way at_d. subst (λ n. n < 2) (sym (is.tapped.way_of direction way at_d)) (way_small _ _));
 }
 
 -- ---- packets that are no copies

@@ -9,9 +9,8 @@ use Rattle.hsr_frame_groups.specs.Frames.{CaughtFields}
 use Rattle.hsr_sightings.specs.Copies.{is_clash}
 use Rattle.hsr_sightings.specs.Frames.{begins}
 use Rattle.hsr_sightings.proofs.Gathering.{slice_get_push}
-use Rattle.hsr_health.specs.Numbering.{AreGroups, IsFirstSame, is_numbered, number_if, numbered_at}
+use Rattle.hsr_health.specs.Numbering.{AreGroups, IsFirstSame, number_if, numbered_at}
 use Rattle.hsr_health.specs.Told.{is_before}
-use Rattle.hsr_health.specs.declared.counts.Marks.{Marks}
 use Rattle.hsr_number_runs.specs.declared.gaps.Gap.{Gap}
 use Rattle.hsr_number_runs.specs.declared.run.Numbered.{Numbered}
 
@@ -121,11 +120,14 @@ groups_small names groups are long few k group here =
     let below = slice_get_within names group (get_or names k []) ((are k group here).same ∙ there) in
     omega (arith, below, few)
 
-pub number_is : (of_copy groups : List ℕ) (marks : List Marks) (i sender group : ℕ) (c : CaughtFields) (m d : Marks) (own : Option Numbered) → slice_get marks i ≡ Some m → i < length marks
-    → sender ≡ slice_index of_copy i → group ≡ slice_index groups sender → own ≡ number_if i sender group (is_numbered (get_or marks i d)) c
-    → (past : List CaughtFields) → m.begins ≡ begins past c → m.is_clash ≡ is_clash past c → own ≡ numbered_at of_copy groups i past c
-number_is of_copy groups marks i sender group c m d own at_i below sender_is group_is own_is past begins_is clash_is =
-    own_is ∙ ap (λ x. number_if i sender group (is_numbered x) c) (get_or_from_slice_get marks i m d at_i)
-    ∙ ap (λ b. number_if i sender group (b && not m.is_clash) c) begins_is ∙ ap (λ b. number_if i sender group (begins past c && not b) c) clash_is
+pub numbered_is : (began clashes : List Bool) (i : ℕ) (b clash d e is : Bool) → slice_get began i ≡ Some b → slice_get clashes i ≡ Some clash
+    → is ≡ get_or began i d && not (get_or clashes i e) → is ≡ b && not clash
+numbered_is began clashes i b clash d e is began_i clashes_i is_is =
+    is_is ∙ ap (λ x. x && not (get_or clashes i e)) (get_or_from_slice_get began i b d began_i) ∙ ap (λ x. b && not x) (get_or_from_slice_get clashes i clash e clashes_i)
+
+pub number_is : (of_copy groups : List ℕ) (i sender group : ℕ) (is : Bool) (c : CaughtFields) (own : Option Numbered) → sender ≡ slice_index of_copy i → group ≡ slice_index groups sender
+    → own ≡ number_if i sender group is c → (past : List CaughtFields) → is ≡ begins past c && not (is_clash past c) → own ≡ numbered_at of_copy groups i past c
+number_is of_copy groups i sender group is c own sender_is group_is own_is past is_is =
+    own_is ∙ ap (λ b. number_if i sender group b c) is_is
     ∙ ap (λ n. number_if i sender n (begins past c && not (is_clash past c)) c) group_is
     ∙ ap (λ n. number_if i n (slice_index groups n) (begins past c && not (is_clash past c)) c) sender_is

@@ -6,11 +6,12 @@ use Rattle.std.proofs.lemmas.List.{take_more}
 use Rattle.std.proofs.lemmas.List.Sums.{sum_by_push}
 use Rattle.hsr_health.specs.Counted.{changed, one_more}
 use Rattle.hsr_health.specs.Loads.{capped}
-use Rattle.hsr_health.specs.Whole.{AreAlike, AreAsMany, AreMore, is_life_of, life_put, lives_of, one_life, one_unreadable, unreadable_of}
+use Rattle.hsr_health.specs.Whole.{AreAlike, AreAsMany, AreMore, HaveLives, is_alike, is_life_of, life_put, lives_of, one_life, one_unreadable, unreadable_of, with_lives}
 use Rattle.hsr_health.specs.declared.counts.Counts.{Counts}
 use Rattle.hsr_heard.specs.declared.heard.Heard.{Heard}
 use Rattle.hsr_health.proofs.Measuring.{alike_life, alike_on, alike_same, alike_unreadable}
 use Rattle.hsr_health.proofs.Sourcing.{changed_at}
+use Rattle.hsr_sightings.proofs.Gathering.{slice_get_push}
 
 count_push : {X : Type 0} (p : X → Bool) (xs : List X) (x : X) → count_by p (xs ++ x ∷ []) ≡ count_by p xs + cond (p x) 1 0
 count_push p xs x = sum_by_push (λ y. cond (p y) 1 0) xs x
@@ -115,3 +116,31 @@ unread_more of_copy unread i d start old new below long is are =
           (more_put (λ own. own.unreadable) one_unreadable (λ own. refl) (λ k copy. nat_eq (slice_index of_copy copy) k) (take i unread) (get_or unread i d) source true start old new (λ k. refl) is are.unreadable);
       others = as_many_put (λ own. own.lives) one_unreadable (λ own. refl) source true start old new is are.others;
     }
+
+-- ---- the supervision frames of others
+
+-- counts with them, and one more
+pub alike_pushed : (counts all new : List Counts) (k : ℕ) (own before lives : Counts) → length all ≡ k → new ≡ all ++ own ∷ [] → slice_get counts k ≡ Some before → own ≡ with_lives lives before
+    → AreAlike counts all → AreAlike counts new
+alike_pushed counts all new k own before lives long is here own_is are j x at_j = by_case (slice_get_push all own x j (ap (λ l. slice_get l j) (sym is) ∙ at_j))
+  where
+    by_case : (slice_get all j ≡ Some x) ⊎ ((j ≡ length all) × (x ≡ own)) → (b : Counts) × (slice_get counts j ≡ Some b) × is_alike b x
+    by_case (inl old) = are j x old
+    by_case (inr last) = (
+      before,
+      ap (slice_get counts) (last.0 ∙ long) ∙ here,
+      let its : x ≡ with_lives lives before = last.1 ∙ own_is in its ∙ ap (λ (y : Counts). record before { lives = y.lives; unreadable = y.unreadable }) (sym its),
+    )
+
+pub lives_pushed : (lives all new : List Counts) (k : ℕ) (own before its : Counts) → length all ≡ k → new ≡ all ++ own ∷ [] → slice_get lives k ≡ Some its → own ≡ with_lives its before
+    → HaveLives lives all → HaveLives lives new
+lives_pushed lives all new k own before its long is here own_is are j x at_j = by_case (slice_get_push all own x j (ap (λ l. slice_get l j) (sym is) ∙ at_j))
+  where
+    by_case : (slice_get all j ≡ Some x) ⊎ ((j ≡ length all) × (x ≡ own)) → (t : Counts) × (slice_get lives j ≡ Some t) × ((x.lives ≡ t.lives) × (x.unreadable ≡ t.unreadable))
+    by_case (inl old) = are j x old
+    by_case (inr last) =
+        let same = last.1 ∙ own_is in (
+          its,
+          ap (slice_get lives) (last.0 ∙ long) ∙ here,
+          (ap (λ (y : Counts). y.lives) same, ap (λ (y : Counts). y.unreadable) same),
+        )

@@ -1,9 +1,9 @@
 -- Sums of packets in moving windows.
 use Rattle.std.proofs.Common.{◌≡◌, ℕ, zero, suc, ◌+◌, ◌-◌, ◌*◌, ◌<◌, ◌≤◌, ◌^◌, max, min, Bool, true, false, cond, List, [], ◌∷◌, ◌++◌, drop, length, map, take, get_or, ◌⊎◌, inl, inr, refl, sym, ap, subst, ◌∙◌, arith, Option, Some, None}
-use Rattle.std.specs.Prelude.{nat_eq, nat_lt, filter, is_some, option_map, slice_get, slice_index, unwrap_or}
-use Rattle.std.proofs.Math.Seq.{get_or-append_seam, take-add}
+use Rattle.std.specs.Prelude.{nat_eq, nat_lt, filter, is_some, option_map, slice_get, unwrap_or}
+use Rattle.std.proofs.Math.Seq.{take-add}
 use Rattle.std.proofs.lemmas.Bool.{cases_lt, cond-false, cond-true, le-ltb, lt-ltb}
-use Rattle.std.proofs.lemmas.List.{drop_more, get_or_append_left, length_push, take_more}
+use Rattle.std.proofs.lemmas.List.{drop_more, length_push, take_more}
 use Rattle.std.proofs.lemmas.List.Sums.{sum_by-append, sum_by-cons, sum_by-take-le, sum_by_more}
 use Rattle.std.proofs.lemmas.Option.{get_or_from_slice_get, same_Some, slice_get-get_or, slice_get-map, slice_get_within}
 use Rattle.hsr_capture_reader.specs.Fields.{InterfaceFields, PacketFields}
@@ -11,7 +11,7 @@ use Rattle.hsr_taps.specs.Asked.{ChoiceFields}
 use Rattle.hsr_taps.specs.Came.{AreInOrder, AreTalliesIf, tally_if}
 use Rattle.hsr_taps.specs.Tallies.{AreLookedAt, is_at}
 use Rattle.hsr_taps.specs.declared.tally.Tally.{Tally}
-use Rattle.hsr_health.specs.Loads.{AreLoads, AreSums, IsEndFrom, Rise, load_if, load_of, own_packets, peak_of, sum_from, weighed}
+use Rattle.hsr_health.specs.Loads.{AreLoads, IsEndFrom, Rise, load_if, load_of, own_packets, peak_of, sum_from, weighed}
 use Rattle.hsr_health.specs.declared.load.Load.{Load}
 use Rattle.hsr_health.specs.declared.load.Weighed.{Weighed}
 use Rattle.hsr_sightings.proofs.Counting.{slice_get_end, slice_get_left}
@@ -147,6 +147,18 @@ window packets i end width v here le near far =
 abbrev pub AreNear : List Weighed → ℕ → ℕ → ℕ → Type 0
 AreNear packets i end width = (j k : ℕ) (v w : Weighed) → i ≤ j → k < end → slice_get packets j ≡ Some v → slice_get packets k ≡ Some w → w.at - v.at < width
 
+-- the next packet is near too
+pub near_one : (packets : List Weighed) (from k at width : ℕ) (d : Weighed) → ((j : ℕ) (w : Weighed) → from ≤ j → j < k → slice_get packets j ≡ Some w → w.at - at < width)
+    → (get_or packets k d).at - at < width → (j : ℕ) (w : Weighed) → from ≤ j → j < k + 1 → slice_get packets j ≡ Some w → w.at - at < width
+near_one packets from k at width d near next j w le below at_j = by_case (cases_lt j k)
+  where
+    by_case : (j < k) ⊎ (k ≤ j) → w.at - at < width
+    by_case (inl before) = near j w le before at_j
+    by_case (inr past) =
+        let place : k ≡ j = omega (arith, past, below) in
+        let same : get_or packets k d ≡ w = get_or_from_slice_get packets k w d (ap (slice_get packets) place ∙ at_j) in
+        subst (λ (x : Weighed). x.at - at < width) same next
+
 pub near_more : (packets : List Weighed) (i old end width : ℕ) (v : Weighed) → Rise packets → slice_get packets i ≡ Some v → IsEndFrom packets old v.at width end → AreNear packets i old width
     → AreNear packets i end width
 near_more packets i old end width v rise here found near j k u w le below at_j at_k = by_case (cases_lt k old)
@@ -159,21 +171,19 @@ near_more packets i old end width v rise here found near j k u w le below at_j a
         omega (arith, own, later)
 
 -- one packet more begins a window
-pub peak_step : (packets : List Weighed) (sums : List ℕ) (i old end width peak new : ℕ) (v : Weighed) → load_of packets < 2 ^ 128 → Rise packets → AreSums packets sums → 0 < width
-    → slice_get packets i ≡ Some v → i ≤ old → IsEndFrom packets old v.at width end → AreNear packets i old width → new ≡ max peak (slice_index sums end - slice_index sums i)
-    → max peak (peak_of width (drop i packets)) ≡ peak_of width packets → max new (peak_of width (drop (i + 1) packets)) ≡ peak_of width packets
-peak_step packets sums i old end width peak new v few rise sums_are wide here le found near new_is told =
+pub peak_step : (packets : List Weighed) (i old end width peak new come gone : ℕ) (v : Weighed) → Rise packets → 0 < width
+    → slice_get packets i ≡ Some v → i ≤ old → IsEndFrom packets old v.at width end → AreNear packets i old width → come ≡ load_of (take end packets) → gone ≡ load_of (take i packets)
+    → new ≡ max peak (come - gone) → max peak (peak_of width (drop i packets)) ≡ peak_of width packets → max new (peak_of width (drop (i + 1) packets)) ≡ peak_of width packets
+peak_step packets i old end width peak new come gone v rise wide here le found near come_is gone_is new_is told =
     let all_near = near_more packets i old end width v rise here found near in
     let inside : i < length packets = slice_get_within packets i v here in
     let behind : i ≤ end = omega (arith, le, found.behind) in
     let sum = window packets i end width v here behind (λ k w from below at_k. all_near i k v w (omega arith) below here at_k) (λ k w from at_k. beyond k w from at_k) in
-    let at_end = sums_are.each few end found.within in
-    let at_i = sums_are.each few i (omega (arith, inside)) in
     let dropped : drop i packets ≡ v ∷ drop (i + 1) packets
     = drop_more packets i v inside ∙ ap (λ x. x ∷ drop (i + 1) packets) (get_or_from_slice_get packets i v v here) in
     let first : peak_of width (drop i packets) ≡ max (sum_from width v (drop i packets)) (peak_of width (drop (i + 1) packets))
     = ap (peak_of width) dropped ∙ ap (λ l. max (sum_from width v l) (peak_of width (drop (i + 1) packets))) (sym dropped) in
-    omega (arith, new_is, told, sum, at_end, at_i, first)
+    omega (arith, new_is, told, sum, come_is, gone_is, first)
   where
     beyond : (k : ℕ) (w : Weighed) → end ≤ k → slice_get packets k ≡ Some w → width ≤ w.at - v.at
     beyond k w from at_k =
@@ -202,16 +212,6 @@ sum_more packets i sum own x here few sum_is own_is =
     let more = take_load packets i x here in
     let le = take_le (i + 1) packets in
     omega (arith, few, sum_is, own_is, more, le)
-
-pub sums_more : (packets : List Weighed) (sums new : List ℕ) (i own : ℕ) → length sums ≡ i + 1 → new ≡ sums ++ own ∷ [] → own ≡ load_of (take (i + 1) packets)
-    → ((k : ℕ) → k ≤ i → slice_index sums k ≡ load_of (take k packets)) → (k : ℕ) → k ≤ i + 1 → slice_index new k ≡ load_of (take k packets)
-sums_more packets sums new i own long is own_is each k le = ap (λ l. slice_index l k) is ∙ by_case (cases_lt k (i + 1))
-  where
-    by_case : (k < i + 1) ⊎ (i + 1 ≤ k) → slice_index (sums ++ own ∷ []) k ≡ load_of (take k packets)
-    by_case (inl before) = get_or_append_left sums (own ∷ []) 0 k (omega (arith, before, long)) ∙ each k (omega (arith, before))
-    by_case (inr past) =
-        let place : k ≡ length sums = omega (arith, past, le, long) in
-        ap (slice_index (sums ++ own ∷ [])) place ∙ get_or-append_seam sums own [] 0 ∙ own_is ∙ ap (λ n. load_of (take n packets)) (sym (place ∙ long))
 
 -- ---- the whole
 

@@ -2,7 +2,7 @@
 --     wire_bits     a packet with its preamble, its frame check sequence and the gap behind it, of the least frame or more
 --     load_of       of all packets of an interface
 --     peak_of       the greatest sum in a time of so many nanoseconds that begins with a packet
-use Rattle.std.specs.Prelude.{ℕ, ◌≡◌, ◌+◌, ◌-◌, ◌*◌, ◌<◌, ◌≤◌, ◌^◌, ◌==◌, max, min, nat_lt, Bool, true, false, List, [], ◌∷◌, filter, length, map, slice_get, slice_index, take, Some}
+use Rattle.std.specs.Prelude.{ℕ, ◌≡◌, ◌+◌, ◌-◌, ◌*◌, ◌<◌, ◌≤◌, ◌^◌, ◌==◌, max, min, nat_lt, Bool, true, false, List, [], ◌∷◌, filter, length, map, slice_get, Some}
 use Rattle.std.specs.List.{sum_by}
 use Rattle.hsr_capture_reader.specs.Fields.{PacketFields}
 use Rattle.hsr_taps.specs.Tallies.{is_at}
@@ -54,11 +54,6 @@ AreLoads looked packets loads = (i : ℕ) (own : Load) → slice_get loads i ≡
 -- no packet comes before one that stands in front of it
 abbrev pub Rise : List Weighed → Type 0
 Rise packets = (j k : ℕ) (v w : Weighed) → j ≤ k → slice_get packets j ≡ Some v → slice_get packets k ≡ Some w → v.at ≤ w.at
-
--- the sums of the first packets: of none, of one, and so on up to all
-pub record AreSums (packets : List Weighed) (sums : List ℕ) : Type 0 where
-  pub each : load_of packets < 2 ^ 128 → (k : ℕ) → k ≤ length packets → slice_index sums k ≡ load_of (take k packets)
-  pub long : length sums ≡ length packets + 1
 
 -- the first packet from an index on that came a time after a moment, or later
 pub record IsEndFrom (packets : List Weighed) (from at width found : ℕ) : Type 0 where

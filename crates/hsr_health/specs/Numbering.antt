@@ -11,7 +11,6 @@ use Rattle.hsr_frame.specs.Address.{is_same_address}
 use Rattle.hsr_frame_groups.specs.Frames.{CaughtFields}
 use Rattle.hsr_health.specs.Counted.{changed, one_more}
 use Rattle.hsr_heard.specs.declared.abouts.About.{About}
-use Rattle.hsr_health.specs.declared.counts.Marks.{Marks}
 use Rattle.hsr_heard.specs.declared.heard.Heard.{Heard}
 use Rattle.hsr_health.specs.declared.ledger.GroupNumbers.{GroupNumbers}
 use Rattle.hsr_health.specs.declared.ledger.Ledger.{Ledger}
@@ -46,9 +45,6 @@ abbrev pub AreGroups : List (List ℕ) → List ℕ → Type 0
 AreGroups names groups = (k group : ℕ) → slice_get groups k ≡ Some group → IsFirstSame names k group
 
 -- ---- numbers
-
-abbrev pub is_numbered : Marks → Bool
-is_numbered marks = marks.begins && not marks.is_clash
 
 abbrev pub number_if : ℕ → ℕ → ℕ → Bool → CaughtFields → Option Numbered
 number_if i sender group is c = if is then Some (record { group = group; sender = sender; number = c.copy.seq; at = c.at; copy = i }) else None

@@ -21,7 +21,9 @@ use Rattle.hsr_health.specs.Told.{IsGreatestCrowd, IsOfCrowd, is_absent}
 use Rattle.hsr_health.specs.declared.counts.Counts.{Counts}
 use Rattle.hsr_health.specs.declared.asked.Asked.{Asked}
 use Rattle.hsr_heard.specs.declared.heard.Heard.{Heard}
+use Rattle.hsr_health.specs.declared.devices.Devices.{Devices}
 use Rattle.hsr_health.specs.declared.findings.Findings.{Findings}
+use Rattle.hsr_health.specs.declared.framed.Framed.{Framed}
 use Rattle.hsr_health.specs.declared.health.Health.{Health}
 use Rattle.hsr_health.specs.declared.health.HealthFault.{HealthFault}
 use Rattle.hsr_health.specs.declared.health.HealthFault.TheVariants as fault
@@ -36,9 +38,9 @@ use Rattle.hsr_health.specs.declared.order.Facts.{Facts}
 use Rattle.hsr_health.specs.declared.reason.Reason.{Reason}
 use Rattle.hsr_health.specs.declared.sources.Sources.{Sources}
 use Rattle.hsr_packet_order.specs.Disorder.{disorder_of, moment_of}
-use Rattle.hsr_sightings.specs.Copies.{carried_before, count_copies, crowd}
+use Rattle.hsr_sightings.specs.Copies.{carried_before, count_copies, crowd, is_clash}
 use Rattle.hsr_sightings.specs.Frames.{begins}
-use Rattle.hsr_sightings.specs.Read.{AreNeeded, AreOvertaken, AreSightings, HasPlaces, HaveOwnNumbers, TellsEach, most_at}
+use Rattle.hsr_sightings.specs.Read.{AreNeeded, AreOvertaken, AreRead, AreSightings, HasPlaces, HasWays, HaveOwnNumbers, TellsEach, most_at}
 use Rattle.hsr_sightings.specs.Ring.{Ring}
 use Rattle.hsr_sightings.specs.Sightings.{sees_both_ways}
 use Rattle.hsr_taps.specs.Asked.{ChoiceFields}
@@ -170,6 +172,15 @@ pub record AreCaught (ring : Ring) (copies : List CaughtFields) : Type 0 where
   pub numbers : HaveOwnNumbers copies
   pub directions : (i : ℕ) (c : CaughtFields) → slice_get copies i ≡ Some c → c.direction < 320
   pub places : HasPlaces ring
+  pub ways : HasWays ring
+
+-- what copies tell of one another as copies of frames
+pub record AreFramed (copies : List CaughtFields) (framed : Framed) : Type 0 where
+  pub read : AreRead copies framed.firsts.items
+  pub began : TellsEach begins copies framed.began.items
+  pub carried : TellsEach carried_before copies framed.carried.items
+  pub clashes : TellsEach is_clash copies framed.clashes.items
+  pub overtaken : AreOvertaken copies framed.overtaken.items
 
 -- what copies tell of one another
 pub record IsSeen (ring : Ring) (copies : List CaughtFields) (taps : List Taps) (seen : Seen) : Type 0 where
@@ -178,6 +189,27 @@ pub record IsSeen (ring : Ring) (copies : List CaughtFields) (taps : List Taps) 
   pub sightings : AreSightings ring copies seen.sightings.all.items seen.sightings.of_copy.items
   pub overtaken : AreOvertaken copies seen.overtaken.items
   pub marks : TellsEach (mark_of (is_at (lanes_of taps)) ring) copies seen.marks.items
+
+-- what supervision and the numbers of frames tell of sources
+pub record IsDevices (ring : Ring) (copies : List CaughtFields) (sources : Sources) (devices : Devices) : Type 0 where
+  pub counted : length devices.counted.items ≡ length sources.macs.items
+  pub grouped : length devices.groups.items ≡ length sources.macs.items
+  pub groups : AreGroups (map (group_name devices.abouts.all.items) sources.macs.items) devices.groups.items
+  pub heard : List Heard
+  pub unread : List ℕ
+  pub are_heard : AreHeard ring copies heard unread
+  pub lives_are : (k : ℕ) (own : Counts) → slice_get devices.counted.items k ≡ Some own → own.lives ≡ capped (lives_of sources.of_copy.items heard k)
+  pub unreadable_are : (k : ℕ) (own : Counts) → slice_get devices.counted.items k ≡ Some own → own.unreadable ≡ capped (unreadable_of sources.of_copy.items unread k)
+  pub abouts : AreAbouts heard ring.start ring.end devices.abouts.all.items devices.abouts.silences.items
+  pub ledger : IsLedger (those_of (numbered_at sources.of_copy.items devices.groups.items) copies) (length sources.macs.items) devices.ledger
+  pub lives : IsLedger (filter_map (life_number sources.of_copy.items) heard) (length sources.macs.items) devices.lives
+
+-- counts with the supervision frames of others
+abbrev pub with_lives : Counts → Counts → Counts
+with_lives lives own = record own { lives = lives.lives; unreadable = lives.unreadable }
+
+abbrev pub HaveLives : List Counts → List Counts → Type 0
+HaveLives lives all = (k : ℕ) (own : Counts) → slice_get all k ≡ Some own → (its : Counts) × (slice_get lives k ≡ Some its) × ((own.lives ≡ its.lives) × (own.unreadable ≡ its.unreadable))
 
 -- what sources and their supervision tell
 pub record IsKnown (ring : Ring) (copies : List CaughtFields) (sources : Sources) (seen : Seen) (known : Known) : Type 0 where

@@ -306,7 +306,7 @@ fn skews_of(
 }
 
 /// Nothing is counted yet of so many sources.
-fn no_counts(alloc: Global, many: usize) -> Result<Vec<Counts>, NoMemory>
+pub(crate) fn no_counts(alloc: Global, many: usize) -> Result<Vec<Counts>, NoMemory>
     ensures long { IfOk result (λ counts. length counts.items ≡ many) }
     ensures none { IfOk result (λ counts. (k : ℕ) (own : the_counts.Counts) → slice_get counts.items k ≡ Some own → own ≡ no_counts) }
 {

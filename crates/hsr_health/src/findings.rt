@@ -3,6 +3,8 @@ ghost use Rattle.std.specs.Prelude.{IfNone, IfOk, IfSome};
 ghost use Rattle.hsr_health.specs.Sources.{HasManySources};
 ghost use Rattle.hsr_health.specs.Whole.{AreCaught, AreFindings};
 
+use crate::devices::devices_of;
+use crate::framed::framed_of;
 use crate::known::{Known, known_of};
 use crate::measured::{Measured, measured_of};
 use crate::seen::{Seen, seen_of};
@@ -37,8 +39,10 @@ pub(crate) fn findings_of(
     let Some(sources) = sources_of(alloc, copies)? else {
         return Ok(None);
     };
-    let seen = seen_of(alloc, ring, copies, taps)?;
-    let known = known_of(alloc, ring, copies, &sources, &seen)?;
+    let framed = framed_of(alloc, copies)?;
+    let devices = devices_of(alloc, ring, copies, &sources, &framed)?;
+    let seen = seen_of(alloc, ring, copies, taps, framed)?;
+    let known = known_of(alloc, ring, copies, &sources, &seen, devices)?;
     let measured = measured_of(alloc, ring, copies, &sources, &seen, many)?;
     Ok(Some(Findings {
         sources,

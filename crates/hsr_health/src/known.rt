@@ -1,92 +1,19 @@
 //! What sources and their supervision tell.
-ghost use Rattle.std.specs.Prelude.{◌≡◌, ◌≤◌, List, length, IfOk};
-ghost use Rattle.hsr_health.specs.Counted.{AreSources, changed};
-ghost use Rattle.hsr_health.specs.Whole.{AreAlike, AreAsMany, AreCaught, AreMore, IsKnown, IsSeen, life_put, lives_of, one_life, one_unreadable, unreadable_of};
+ghost use Rattle.std.specs.Prelude.{◌≡◌, List, length, IfOk};
+ghost use Rattle.hsr_health.specs.Counted.{AreSources};
+ghost use Rattle.hsr_health.specs.Whole.{AreAlike, HaveLives, IsDevices, IsKnown, IsSeen, with_lives};
 ghost use Rattle.hsr_taps.specs.declared.direction.Taps as the_taps;
 
-use crate::counts::{Counts, counts_of, source_of};
-use crate::ledger::{Ledger, frame_runs, groups_of, ledger_of, life_runs};
+use crate::counts::{Counts, counts_of};
+use crate::devices::Devices;
+use crate::ledger::Ledger;
 use crate::seen::Seen;
 use crate::sources::Sources;
 use hsr_frame::NoMemory;
 use hsr_frame_groups::Caught;
-use hsr_heard::{Abouts, Heard, Hearing, abouts_of, hearing_of};
+use hsr_heard::Abouts;
 use hsr_sightings::Ring;
 use std::alloc::Global;
-
-/// With one more supervision frame that can be read.
-fn with_life(counts: Counts) -> Counts
-    ensures { result ≡ one_life counts }
-{
-    Counts {
-        lives: counts.lives.saturating_add(1),
-        ..counts
-    }
-}
-
-/// With one more supervision frame that can't be read.
-fn with_unreadable(counts: Counts) -> Counts
-    ensures { result ≡ one_unreadable counts }
-{
-    Counts {
-        unreadable: counts.unreadable.saturating_add(1),
-        ..counts
-    }
-}
-
-/// Counts a supervision frame of a source, if that is among them.
-fn count_life(counts: &mut Vec<Counts>, source: usize)
-    ensures long { length counts.new.items ≡ length counts.old.items }
-    ensures counts { counts.new.items ≡ changed one_life source counts.old.items }
-{
-    if source < counts.len() {
-        counts[source] = with_life(counts[source]);
-    }
-}
-
-/// Counts a supervision frame of a source that can't be read, if the source is among them.
-fn count_unreadable(counts: &mut Vec<Counts>, source: usize)
-    ensures long { length counts.new.items ≡ length counts.old.items }
-    ensures counts { counts.new.items ≡ changed one_unreadable source counts.old.items }
-{
-    if source < counts.len() {
-        counts[source] = with_unreadable(counts[source]);
-    }
-}
-
-/// Counts a supervision frame of a source, if it begins.
-fn count_heard(counts: &mut Vec<Counts>, one: &Heard, of_copy: &[u32])
-    ensures long { length counts.new.items ≡ length counts.old.items }
-    ensures counts { counts.new.items ≡ life_put of_copy.now one.now counts.old.items }
-{
-    if one.begins {
-        count_life(counts, source_of(of_copy, one.copy));
-    }
-}
-
-/// Counts the supervision frames of each source.
-fn count_lives(counts: &mut Vec<Counts>, heard: &[Heard], of_copy: &[u32])
-    ensures long { length counts.new.items ≡ length counts.old.items }
-    ensures alike { AreAlike counts.old.items counts.new.items }
-    ensures lives { AreMore (λ own. own.lives) (lives_of of_copy.now heard.now) counts.old.items counts.new.items }
-    ensures others { AreAsMany (λ own. own.unreadable) counts.old.items counts.new.items }
-{
-    for i in 0..heard.len() {
-        count_heard(counts, &heard[i], of_copy);
-    }
-}
-
-/// Counts the supervision frames of each source that can't be read.
-fn count_unread(counts: &mut Vec<Counts>, unread: &[u32], of_copy: &[u32])
-    ensures long { length counts.new.items ≡ length counts.old.items }
-    ensures alike { AreAlike counts.old.items counts.new.items }
-    ensures unreadable { AreMore (λ own. own.unreadable) (unreadable_of of_copy.now unread.now) counts.old.items counts.new.items }
-    ensures others { AreAsMany (λ own. own.lives) counts.old.items counts.new.items }
-{
-    for i in 0..unread.len() {
-        count_unreadable(counts, source_of(of_copy, unread[i]));
-    }
-}
 
 /// What sources and their supervision tell.
 #[derive(Drop)]
@@ -98,38 +25,62 @@ pub(crate) struct Known {
     pub(crate) lives: Ledger,
 }
 
-/// What sources and their supervision tell.
+/// Counts with the supervision frames of others.
+fn with_lives(counts: Counts, lives: Counts) -> Counts
+    ensures { result ≡ with_lives lives counts }
+{
+    Counts {
+        lives: lives.lives,
+        unreadable: lives.unreadable,
+        ..counts
+    }
+}
+
+/// Counts of sources, each with its supervision frames.
+fn all_with_lives(
+    alloc: Global,
+    counts: &[Counts],
+    lives: &[Counts],
+) -> Result<Vec<Counts>, NoMemory>
+    requires { length lives.now ≡ length counts.now }
+    ensures long { IfOk result (λ all. length all.items ≡ length counts.now) }
+    ensures alike { IfOk result (λ all. AreAlike counts.now all.items) }
+    ensures lives { IfOk result (λ all. HaveLives lives.now all.items) }
+{
+    let mut all = Vec::new(alloc);
+    for k in 0..counts.len() {
+        all.push(with_lives(counts[k], lives[k]))?;
+    }
+    Ok(all)
+}
+
+/// What sources and their supervision tell, where this is what supervision and the numbers of frames tell.
 pub(crate) fn known_of(
     alloc: Global,
     ring: &Ring<'_>,
     copies: &[Caught<'_>],
     sources: &Sources,
     seen: &Seen,
+    devices: Devices,
 ) -> Result<Known, NoMemory>
-    requires caught { AreCaught ring.now copies.now }
     requires sources { AreSources copies.now sources.now.macs.items sources.now.of_copy.items }
-    requires few { length sources.now.macs.items ≤ 1024 }
     requires seen { (taps : List the_taps.Taps) × IsSeen ring.now copies.now taps seen.now }
+    requires devices { IsDevices ring.now copies.now sources.now devices }
     ensures { IfOk result (λ known. IsKnown ring.now copies.now sources.now seen.now known) }
 {
     let many = sources.macs.len();
     let of_copy = sources.of_copy.as_slice();
     let marks = seen.marks.as_slice();
     let all = seen.sightings.all.as_slice();
-    let mut counts = counts_of(alloc, ring, copies, of_copy, all, marks, many)?;
-    let began = seen.began.as_slice();
-    let Hearing { heard, unread } = hearing_of(alloc, ring, copies, began)?;
-    count_lives(&mut counts, heard.as_slice(), of_copy);
-    count_unread(&mut counts, unread.as_slice(), of_copy);
-    let said = life_runs(alloc, heard.as_slice(), of_copy)?;
-    let lives = ledger_of(alloc, said, many)?;
-    let abouts = abouts_of(alloc, heard, ring.start, ring.end)?;
-    let macs = sources.macs.as_slice();
-    let told = abouts.all.as_slice();
-    let groups = groups_of(alloc, macs, told)?;
-    let of_source = groups.as_slice();
-    let placed = frame_runs(alloc, copies, of_copy, of_source, marks)?;
-    let ledger = ledger_of(alloc, placed, many)?;
+    let bare = counts_of(alloc, ring, copies, of_copy, all, marks, many)?;
+    let counts = all_with_lives(alloc, bare.as_slice(), devices.counted.as_slice())?;
+    let Devices {
+        counted: _,
+        abouts,
+        groups,
+        ledger,
+        lives,
+    } = devices;
     Ok(Known {
         counts,
         abouts,

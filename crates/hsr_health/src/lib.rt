@@ -19,6 +19,8 @@
 //! - `order`: which of them comes first
 //! - `asked`: what is asked of a capture
 //! - `traffic`: what came by its taps, and when
+//! - `framed`: what copies tell of one another as copies of frames
+//! - `devices`: what supervision and the numbers of frames tell of sources
 //! - `seen`: what copies tell of one another
 //! - `known`: what sources and their supervision tell
 //! - `measured`: what is told of points and of directions
@@ -34,8 +36,10 @@ mod broken;
 mod by_key;
 mod copy_reasons;
 mod counts;
+mod devices;
 mod directions;
 mod findings;
+mod framed;
 mod health;
 mod kinds;
 mod known;

@@ -1,6 +1,6 @@
 //! How much came at an interface.
-ghost use Rattle.std.specs.Prelude.{◌≡◌, ◌+◌, ◌-◌, ◌*◌, ◌<◌, ◌≤◌, ◌^◌, ◌++◌, ◌∷◌, [], length, max, min, IfOk, OnOk};
-ghost use Rattle.hsr_health.specs.Loads.{AreLoads, AreSums, IsEndFrom, Rise, capped, load_by, load_if, load_of, own_packets, peak_of, weighed};
+ghost use Rattle.std.specs.Prelude.{◌≡◌, ◌+◌, ◌-◌, ◌*◌, ◌<◌, ◌≤◌, ◌^◌, ◌++◌, ◌∷◌, [], length, max, min, take, IfOk, OnOk};
+ghost use Rattle.hsr_health.specs.Loads.{AreLoads, IsEndFrom, Rise, capped, load_by, load_if, load_of, own_packets, peak_of, weighed};
 ghost use Rattle.hsr_taps.specs.Came.{AreInOrder};
 
 use hsr_capture_reader::Packet;
@@ -79,47 +79,59 @@ fn own_packets(
     Ok(own)
 }
 
-/// The sums of the first packets: of none, of one, and so on up to all. They have 128 bits, so that no capture fills them.
-fn sums_of(alloc: Global, packets: &[Weighed]) -> Result<Vec<u128>, NoMemory>
-    ensures { IfOk result (λ sums. AreSums packets.now sums.items) }
-{
-    let mut sums = Vec::new(alloc);
-    let mut sum = 0u128;
-    sums.push(sum)?;
-    for i in 0..packets.len() {
-        sum = sum.saturating_add(u128::from(packets[i].bits));
-        sums.push(sum)?;
-    }
-    Ok(sums)
+/// How far packets are summed: those before an index, and their sum. It has 128 bits, so that no capture fills it.
+#[derive(Clone, Copy)]
+struct Summed {
+    end: usize,
+    bits: u128,
 }
 
-/// The first packet from an index on that came a time after a moment or later, by its index.
-fn end_from(packets: &[Weighed], from: usize, at: u64, width: u64) -> usize
-    requires { from ≤ length packets.now }
-    ensures { IsEndFrom packets.now from at width result }
+/// With the packets from there on that came less than a time after a moment.
+fn summed_until(packets: &[Weighed], before: Summed, at: u64, width: u64) -> Summed
+    requires { before.end ≤ length packets.now }
+    ensures end { IsEndFrom packets.now before.end at width result.end }
+    ensures bits { load_of packets.now < 2 ^ 128 → before.bits ≡ load_of (take before.end packets.now) → result.bits ≡ load_of (take result.end packets.now) }
 {
-    for k in from..packets.len() {
+    let mut bits = before.bits;
+    for k in before.end..packets.len() {
         if packets[k].at.saturating_sub(at) >= width {
-            return k;
+            return Summed { end: k, bits };
         }
+        bits = bits.saturating_add(u128::from(packets[k].bits));
     }
-    packets.len()
+    Summed {
+        end: packets.len(),
+        bits,
+    }
 }
 
-/// The greatest sum in a time of so many nanoseconds that begins with a packet, by the sums of the first packets.
-fn peak_of(packets: &[Weighed], sums: &[u128], width: u64) -> u128
+/// The greatest sum in a time of so many nanoseconds that begins with a packet. Two sums go through the packets, one to the end of the time and
+/// one to its begin, so that it takes no room.
+fn peak_of(packets: &[Weighed], width: u64) -> u128
     requires time { Rise packets.now }
-    requires sums { AreSums packets.now sums.now }
     requires width { 0 < width }
     ensures { load_of packets.now < 2 ^ 128 → result ≡ peak_of width packets.now }
 {
     let mut peak = 0u128;
-    let mut end = 0;
+    let mut before = 0u128;
+    let mut summed = Summed { end: 0, bits: 0 };
     for i in 0..packets.len() {
-        end = end_from(packets, end, packets[i].at, width);
-        peak = peak.max(sums[end].saturating_sub(sums[i]));
+        summed = summed_until(packets, summed, packets[i].at, width);
+        peak = peak.max(summed.bits.saturating_sub(before));
+        before = before.saturating_add(u128::from(packets[i].bits));
     }
     peak
+}
+
+/// The sum of all.
+fn sum_of(packets: &[Weighed]) -> u128
+    ensures { load_of packets.now < 2 ^ 128 → result ≡ load_of packets.now }
+{
+    let mut sum = 0u128;
+    for i in 0..packets.len() {
+        sum = sum.saturating_add(u128::from(packets[i].bits));
+    }
+    sum
 }
 
 /// A number of 64 bits at most.
@@ -130,20 +142,15 @@ fn capped(n: u128) -> u64
 }
 
 /// How much came by these packets.
-fn load_of(alloc: Global, packets: &[Weighed]) -> Result<Load, NoMemory>
+fn load_of(packets: &[Weighed]) -> Load
     requires { Rise packets.now }
-    ensures { IfOk result (λ load. load_of packets.now < 2 ^ 128 → load ≡ load_by packets.now) }
+    ensures { load_of packets.now < 2 ^ 128 → result ≡ load_by packets.now }
 {
-    let all = sums_of(alloc, packets)?;
-    let sums = all.as_slice();
-    let whole = sums[packets.len()];
-    let peak_1ms = peak_of(packets, sums, MILLISECOND);
-    let peak_1s = peak_of(packets, sums, SECOND);
-    Ok(Load {
-        all: capped(whole),
-        in_1ms: capped(peak_1ms),
-        in_1s: capped(peak_1s),
-    })
+    Load {
+        all: capped(sum_of(packets)),
+        in_1ms: capped(peak_of(packets, MILLISECOND)),
+        in_1s: capped(peak_of(packets, SECOND)),
+    }
 }
 
 /// How much came at an interface; nothing where it isn't looked at.
@@ -160,8 +167,7 @@ fn load_at(
         return Ok(Load::default());
     }
     let own = own_packets(alloc, packets, interface)?;
-    let load = load_of(alloc, own.as_slice())?;
-    Ok(load)
+    Ok(load_of(own.as_slice()))
 }
 
 /// How much came at each interface, by packets in the order of time; nothing at those that aren't looked at.

@@ -1,16 +1,14 @@
 //! What copies tell of one another.
 ghost use Rattle.std.specs.Prelude.{◌≡◌, map, slice_get, IfOk};
 ghost use Rattle.std.specs.List.{range_with_len};
-ghost use Rattle.hsr_health.specs.Whole.{AreCaught, IsSeen, is_lane};
+ghost use Rattle.hsr_health.specs.Whole.{AreCaught, AreFramed, IsSeen, is_lane};
 ghost use Rattle.hsr_taps.specs.Directions.{interface_of};
 
 use crate::counts::{Marks, marks_of};
+use crate::framed::Framed;
 use hsr_frame::NoMemory;
-use hsr_frame_groups::{Caught, frames_of};
-use hsr_sightings::{
-    Overtaken, Ring, Sightings, begins_of, carried_of, clashes_of, lates_of, overtaken_of,
-    sightings_of,
-};
+use hsr_frame_groups::Caught;
+use hsr_sightings::{Overtaken, Ring, Sightings, lates_of, sightings_of};
 use hsr_taps::{DIRECTIONS, Taps, interface_of};
 use std::alloc::Global;
 
@@ -45,25 +43,27 @@ pub(crate) struct Seen {
     pub(crate) marks: Vec<Marks>,
 }
 
-/// What the copies of a capture tell of one another.
+/// What the copies of a capture tell of one another, where this is what they tell as copies of frames.
 pub(crate) fn seen_of(
     alloc: Global,
     ring: &Ring<'_>,
     copies: &[Caught<'_>],
     taps: &[Taps],
+    framed: Framed,
 ) -> Result<Seen, NoMemory>
-    requires { AreCaught ring.now copies.now }
-    ensures { IfOk result (λ seen. IsSeen ring.now copies.now taps.now seen) }
+    requires caught { AreCaught ring.now copies.now }
+    requires framed { AreFramed copies.now framed }
+    ensures { IfOk result (IsSeen ring.now copies.now taps.now) }
 {
-    let frames = frames_of(alloc, copies)?;
-    let firsts = frames.as_slice();
-    let carried = carried_of(alloc, copies, firsts)?;
+    let Framed {
+        firsts,
+        began,
+        carried,
+        clashes,
+        overtaken,
+    } = framed;
     let before = carried.as_slice();
-    // What needs much room for itself comes before the sightings, which stay.
-    let overtaken = overtaken_of(alloc, copies, firsts, before)?;
-    let clashes = clashes_of(alloc, copies, firsts)?;
-    let began = begins_of(alloc, copies, firsts)?;
-    let sightings = sightings_of(alloc, ring, copies, firsts, before)?;
+    let sightings = sightings_of(alloc, ring, copies, firsts.as_slice(), before)?;
     let all = sightings.all.as_slice();
     let numbers = sightings.of_copy.as_slice();
     let lates = lates_of(alloc, copies, all, numbers)?;

@@ -88,10 +88,10 @@ pub(crate) fn traffic_of<'a>(
     // Loads need much room for themselves, so they come before the copies, which stay.
     let looked = looked_at(alloc, by_number, choice)?;
     let loads = loads_of(alloc, in_order, looked.as_slice())?;
-    let tapped = tap(alloc, by_number, in_order, choice)?;
     let start = first_moment(in_order);
     let end = last_moment(in_order, end);
-    // The packets go here: nothing more is told of them, and they take nearly as much room as the copies.
+    // The packets go as the copies come: nothing more is told of them, and they take more room than the copies.
+    let tapped = tap(alloc, by_number, sorted, choice)?;
     Ok(Traffic {
         outline: Outline {
             interfaces,

@@ -49,7 +49,7 @@ pub fn previous_of(
     ensures { IfOk result (λ found. ArePrevious horizon things.now found.items) }
 {
     let mut table = RecentTable::new(alloc, horizon);
-    let mut found = Vec::new(alloc);
+    let mut found = Vec::with_capacity(alloc, things.len())?;
     for i in 0..things.len() {
         let thing = things[i];
         let previous = previous_in(&table, thing.key);

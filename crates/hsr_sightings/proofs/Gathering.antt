@@ -331,14 +331,14 @@ more_begun ring copies i c here begins =
     (and_from (is_at ring (point_of ring c) c) (begins_there ring (past_of copies i) c) (eq-eqb (point_of ring c) (point_of ring c) refl) begins))
 
 -- one more began at a point
-counts_more : (ring : Ring) (copies : List CaughtFields) (i : ℕ) (c : CaughtFields) (counts_old new : List ℕ) → slice_get copies i ≡ Some c → i < 2 ^ 32 → begins_there ring (past_of copies i) c ≡ true
-    → new ≡ set counts_old (point_of ring c) (min (slice_index counts_old (point_of ring c) + 1) (2 ^ 64 - 1)) → point_of ring c < length counts_old
+counts_more : (ring : Ring) (copies : List CaughtFields) (i : ℕ) (c : CaughtFields) (counts_old new : List ℕ) → slice_get copies i ≡ Some c → i < 2 ^ 32 - 1 → begins_there ring (past_of copies i) c ≡ true
+    → new ≡ set counts_old (point_of ring c) (min (slice_index counts_old (point_of ring c) + 1) (2 ^ 32 - 1)) → point_of ring c < length counts_old
     → ((point n : ℕ) → slice_get counts_old point ≡ Some n → n ≡ length (begun_at ring point (past_of copies i)))
     → (point n : ℕ) → slice_get new point ≡ Some n → n ≡ length (begun_at ring point (past_of copies (i + 1)))
 counts_more ring copies i c counts_old new here few begins new_is inside counts point n at_point =
     by_case (slice_get_set counts_old (point_of ring c) point _ n (ap (λ l. slice_get l point) (sym new_is) ∙ at_point))
   where
-    by_case : ((point ≡ point_of ring c) × (n ≡ min (slice_index counts_old (point_of ring c) + 1) (2 ^ 64 - 1))) ⊎ ((point_of ring c ≡ point → ⊥) × (slice_get counts_old point ≡ Some n))
+    by_case : ((point ≡ point_of ring c) × (n ≡ min (slice_index counts_old (point_of ring c) + 1) (2 ^ 32 - 1))) ⊎ ((point_of ring c ≡ point → ⊥) × (slice_get counts_old point ≡ Some n))
         → n ≡ length (begun_at ring point (past_of copies (i + 1)))
     by_case (inl own) =
         let below : i < length copies = slice_get_within copies i c here in
@@ -383,7 +383,7 @@ own_more ring copies i k c all new of_copy here long keeps of_c own j d below at
 
 pub begin_step : (ring : Ring) (copies : List CaughtFields) (firsts : List ℕ) (i carried : ℕ) (c : CaughtFields) (all : List Sighting) (of_copy begun_old begun_new : List ℕ) → AreRead copies firsts
     → slice_get copies i ≡ Some c → carried ≡ carried_before (past_of copies i) c → AreFound ring copies i all of_copy begun_old → IsPreviousSighting ring copies i None → point_of ring c < 64
-    → begun_new ≡ set begun_old (point_of ring c) (min (slice_index begun_old (point_of ring c) + 1) (2 ^ 64 - 1))
+    → begun_new ≡ set begun_old (point_of ring c) (min (slice_index begun_old (point_of ring c) + 1) (2 ^ 32 - 1))
     → AreFound ring copies (i + 1) (all ++ joined ring c carried (begun c i (slice_index firsts i) (point_of ring c) (slice_index begun_old (point_of ring c))) ∷ []) (of_copy ++ length all ∷ []) begun_new
 begin_step ring copies firsts i carried c all of_copy begun_old begun_new read here carried_is found none place begun_is = record {
   each = λ k s at_k. by_old k s (slice_get_push all own s k at_k);

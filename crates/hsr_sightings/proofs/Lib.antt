@@ -6,4 +6,3 @@ pub mod Passing
 pub mod Gathering
 pub mod Demanding
 pub mod Crowding
-pub mod Moments

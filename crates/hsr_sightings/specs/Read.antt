@@ -33,6 +33,10 @@ pub record AreRead (copies : List CaughtFields) (firsts : List ℕ) : Type 0 whe
 abbrev pub HasPlaces : Ring → Type 0
 HasPlaces ring = (direction : ℕ) → slice_index ring.points direction < 64
 
+-- each way is 0 or 1
+abbrev pub HasWays : Ring → Type 0
+HasWays ring = (direction : ℕ) → slice_index ring.ways direction < 2
+
 -- ---- what is told of each
 
 pub record TellsEach {X : Type 0} (tell : List CaughtFields → CaughtFields → X) (copies : List CaughtFields) (told : List X) : Type 0 where

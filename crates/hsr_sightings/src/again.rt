@@ -26,7 +26,7 @@ fn keys_of(alloc: Global, copies: &[Caught<'_>], firsts: &[u32]) -> Result<Vec<K
     requires { AreRead copies.now firsts.now }
     ensures { IfOk result (λ keys. AreCarriedKeys copies.now firsts.now keys.items) }
 {
-    let mut keys = Vec::new(alloc);
+    let mut keys = Vec::with_capacity(alloc, copies.len())?;
     for i in 0..copies.len() {
         let caught = &copies[i];
         keys.push(Keyed {

@@ -18,7 +18,7 @@ use std::alloc::Global;
 fn keys_of(alloc: Global, copies: &[Caught<'_>]) -> Result<Vec<Keyed>, NoMemory>
     ensures { IfOk result (λ keys. AreCopyKeys copies.now keys.items) }
 {
-    let mut keys = Vec::new(alloc);
+    let mut keys = Vec::with_capacity(alloc, copies.len())?;
     for i in 0..copies.len() {
         let caught = &copies[i];
         keys.push(Keyed {

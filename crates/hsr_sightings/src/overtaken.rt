@@ -1,10 +1,10 @@
 //! Copies behind a greater number of their source and priority, on their direction.
-ghost use Rattle.std.specs.Prelude.{◌≡◌, ◌<◌, ◌++◌, length, option_to_list, IfOk, OnOk};
+ghost use Rattle.std.specs.Prelude.{◌≡◌, ◌<◌, ◌++◌, length, map, option_to_list, IfOk, OnOk};
 ghost use Rattle.hsr_previous.specs.Previous.{ArePrevious};
 ghost use Rattle.hsr_frame_groups.specs.Frames.{frame_time};
 ghost use Rattle.hsr_sightings.specs.Copies.{carried_before, is_behind, is_passed};
 ghost use Rattle.hsr_sightings.specs.Keys.{beside_key, priority_of};
-ghost use Rattle.hsr_sightings.specs.Passed.{AreBesideKeys, AreTops, is_passed_at, overtaken_in, top_after, top_by};
+ghost use Rattle.hsr_sightings.specs.Passed.{AreBesideKeys, AreTops, beside_keyed, is_passed_at, overtaken_in, top_after, top_by};
 ghost use Rattle.hsr_sightings.specs.Read.{AreOvertaken, AreRead, TellsEach};
 
 use crate::ring::FORGET_TIME;
@@ -44,7 +44,7 @@ fn keys_of(alloc: Global, copies: &[Caught<'_>], firsts: &[u32]) -> Result<Vec<K
     requires { AreRead copies.now firsts.now }
     ensures { IfOk result (λ keys. AreBesideKeys copies.now keys.items) }
 {
-    let mut keys = Vec::new(alloc);
+    let mut keys = Vec::with_capacity(alloc, copies.len())?;
     for i in 0..copies.len() {
         let caught = &copies[i];
         keys.push(Keyed {
@@ -53,6 +53,20 @@ fn keys_of(alloc: Global, copies: &[Caught<'_>], firsts: &[u32]) -> Result<Vec<K
         })?;
     }
     Ok(keys)
+}
+
+/// Of each copy the previous one of its direction, priority and source. The keys go here: they take as much room as all that is told meanwhile.
+fn previous_beside(
+    alloc: Global,
+    copies: &[Caught<'_>],
+    firsts: &[u32],
+) -> Result<Vec<Option<u32>>, NoMemory>
+    requires { AreRead copies.now firsts.now }
+    ensures { IfOk result (λ previous. ArePrevious frame_time (map beside_keyed copies.now) previous.items) }
+{
+    let keys = keys_of(alloc, copies, firsts)?;
+    let previous = previous_of(alloc, keys.as_slice(), FRAME_TIME)?;
+    Ok(previous)
 }
 
 /// Whether a number is behind another one, by at most 4096.
@@ -113,13 +127,11 @@ fn tops_of(
     copies: &[Caught<'_>],
     firsts: &[u32],
     carried: &[u32],
-    keys: &[Keyed],
     previous: &[Option<u32>],
 ) -> Result<Vec<Option<u32>>, NoMemory>
     requires read { AreRead copies.now firsts.now }
     requires carried { TellsEach carried_before copies.now carried.now }
-    requires keys { AreBesideKeys copies.now keys.now }
-    requires found { ArePrevious frame_time keys.now previous.now }
+    requires found { ArePrevious frame_time (map beside_keyed copies.now) previous.now }
     ensures { IfOk result (λ tops. AreTops copies.now (length copies.now) tops.items) }
 {
     let mut tops = Vec::new(alloc);
@@ -173,10 +185,9 @@ pub fn overtaken_of(
     requires carried { TellsEach carried_before copies.now carried.now }
     ensures { IfOk result (λ overtaken. AreOvertaken copies.now overtaken.items) }
 {
-    let keys = keys_of(alloc, copies, firsts)?;
-    let found = previous_of(alloc, keys.as_slice(), FRAME_TIME)?;
+    let found = previous_beside(alloc, copies, firsts)?;
     let previous = found.as_slice();
-    let tops = tops_of(alloc, copies, firsts, carried, keys.as_slice(), previous)?;
+    let tops = tops_of(alloc, copies, firsts, carried, previous)?;
     let mut overtaken = Vec::new(alloc);
     for i in 0..copies.len() {
         let before = top_by(tops.as_slice(), previous[i]);

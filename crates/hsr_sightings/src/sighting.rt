@@ -5,9 +5,9 @@ ghost use Rattle.hsr_previous.specs.Previous.{ArePrevious};
 ghost use Rattle.hsr_previous.specs.declared.previous.Keyed.{Keyed};
 ghost use Rattle.hsr_sightings.specs.Copies.{carried_before};
 ghost use Rattle.hsr_sightings.specs.Finding.{AreFound, IsPreviousSighting};
-ghost use Rattle.hsr_sightings.specs.Read.{AreRead, AreSightingKeys, AreSightings, HasPlaces, TellsEach};
-ghost use Rattle.hsr_sightings.specs.Ring.{point_of};
-ghost use Rattle.hsr_sightings.specs.Seen.{begun, came_both, fate_of, first_of, is_edge, joined, key_by, skew_of, way_of_seen, with_copy};
+ghost use Rattle.hsr_sightings.specs.Read.{AreRead, AreSightingKeys, AreSightings, HasPlaces, HasWays, TellsEach};
+ghost use Rattle.hsr_sightings.specs.Ring.{point_of, way_of};
+ghost use Rattle.hsr_sightings.specs.Seen.{begun, came_both, fate_of, is_edge, joined, key_by, skew_of, way_of_seen, with_copy};
 ghost use Rattle.hsr_sightings.specs.Fields.{Sighting};
 
 use crate::ring::{FORGET_TIME, Ring};
@@ -20,18 +20,20 @@ use std::marker::Model;
 /// How many points there may be, as numbers.
 const POINTS: u64 = 64;
 
-/// A frame as a point saw it. It takes 48 octets of room: a moment that isn't there is 0 beside a mark.
+/// A frame as a point saw it. It takes 32 octets of room, half of what the list of a large capture else took: its first copy came one way, so that
+/// the moment of one other copy is enough.
 #[derive(Drop)]
 pub struct Sighting {
     at: u64,
-    order: u64,
-    moment_0: u64,
-    moment_1: u64,
+    /// The moment of the first copy on the other way; 0 where there is none.
+    other: u64,
+    order: u32,
     first: u32,
     frame: u32,
     point: u8,
-    has_0: bool,
-    has_1: bool,
+    /// Whether the first copy came on way 1.
+    is_1_first: bool,
+    has_other: bool,
     is_more: bool,
 }
 
@@ -41,7 +43,16 @@ impl Model for Sighting {
 
     ghost Value = { Sighting };
 
-    ghost view = { λ s. record { first = s.first; at = s.at; frame = s.frame; point = s.point; order = s.order; by_0 = if s.has_0 then Some s.moment_0 else None; by_1 = if s.has_1 then Some s.moment_1 else None; is_more = s.is_more } };
+    ghost view = { λ s. record {
+      first = s.first;
+      at = s.at;
+      frame = s.frame;
+      point = s.point;
+      order = s.order;
+      by_0 = if s.is_1_first then (if s.has_other then Some s.other else None) else Some s.at;
+      by_1 = if s.is_1_first then Some s.at else (if s.has_other then Some s.other else None);
+      is_more = s.is_more;
+    } };
 }
 
 /// All sightings in the order of their first copies, and of each copy the index of its sighting.
@@ -62,16 +73,6 @@ pub enum Fate {
     More,
     /// It came on one way alone at an edge of the capture, so its other copy may be outside.
     Open,
-}
-
-/// The first of two moments, of which the one that is known came before.
-fn first_of(known: Option<u64>, at: u64) -> Option<u64>
-    ensures { result ≡ first_of known at }
-{
-    match known {
-        Some(first) => Some(first),
-        None => Some(at),
-    }
 }
 
 /// A moment, if it is there.
@@ -107,21 +108,29 @@ impl Sighting {
     pub fn order(&self) -> u64
         ensures { result ≡ self.now.order }
     {
-        self.order
+        u64::from(self.order)
     }
 
     /// The moment of its first copy on way 0.
     pub fn by_0(&self) -> Option<u64>
         ensures { result ≡ self.now.by_0 }
     {
-        moment_if(self.has_0, self.moment_0)
+        if self.is_1_first {
+            moment_if(self.has_other, self.other)
+        } else {
+            Some(self.at)
+        }
     }
 
     /// The moment of its first copy on way 1.
     pub fn by_1(&self) -> Option<u64>
         ensures { result ≡ self.now.by_1 }
     {
-        moment_if(self.has_1, self.moment_1)
+        if self.is_1_first {
+            Some(self.at)
+        } else {
+            moment_if(self.has_other, self.other)
+        }
     }
 
     /// The same.
@@ -130,14 +139,13 @@ impl Sighting {
     {
         Sighting {
             at: self.at,
+            other: self.other,
             order: self.order,
-            moment_0: self.moment_0,
-            moment_1: self.moment_1,
             first: self.first,
             frame: self.frame,
             point: self.point,
-            has_0: self.has_0,
-            has_1: self.has_1,
+            is_1_first: self.is_1_first,
+            has_other: self.has_other,
             is_more: self.is_more,
         }
     }
@@ -146,50 +154,33 @@ impl Sighting {
     pub fn came_both_ways(&self) -> bool
         ensures { result ≡ came_both self.now }
     {
-        self.has_0 && self.has_1
+        self.has_other
     }
 
     /// The way that it came by, the first of both.
     pub fn way(&self) -> u8
         ensures { result ≡ way_of_seen self.now }
     {
-        if self.has_0 { 0 } else { 1 }
-    }
-
-    /// With the moments of the first copies on each way.
-    #[tactic(auto, using(crate::proofs::Moments::moment_same))]
-    fn with_moments(&self, by_0: Option<u64>, by_1: Option<u64>, is_more: bool) -> Sighting
-        ensures { result ≡ record self.now { by_0 = by_0; by_1 = by_1; is_more = is_more } }
-    {
-        Sighting {
-            at: self.at,
-            order: self.order,
-            moment_0: by_0.unwrap_or(0),
-            moment_1: by_1.unwrap_or(0),
-            first: self.first,
-            frame: self.frame,
-            point: self.point,
-            has_0: by_0.is_some(),
-            has_1: by_1.is_some(),
-            is_more,
+        if self.is_1_first && !self.has_other {
+            1
+        } else {
+            0
         }
     }
 
     /// With a copy that came one way.
     fn with(&self, way: u8, at: u64, is_again: bool) -> Sighting
+        requires { way < 2 }
         ensures { result ≡ with_copy self.now way at is_again }
     {
-        let by_0 = if way == 0 {
-            first_of(self.by_0(), at)
-        } else {
-            self.by_0()
-        };
-        let by_1 = if way == 1 {
-            first_of(self.by_1(), at)
-        } else {
-            self.by_1()
-        };
-        self.with_moments(by_0, by_1, self.is_more || is_again)
+        let is_known = self.has_other || (way == 1) == self.is_1_first;
+        let mut seen = self.copied();
+        seen.is_more = self.is_more || is_again;
+        if !is_known {
+            seen.other = at;
+            seen.has_other = true;
+        }
+        seen
     }
 }
 
@@ -246,7 +237,7 @@ fn keys_of(
     requires places { HasPlaces ring.now }
     ensures { IfOk result (λ keys. AreSightingKeys ring.now copies.now firsts.now keys.items) }
 {
-    let mut keys = Vec::new(alloc);
+    let mut keys = Vec::with_capacity(alloc, copies.len())?;
     for i in 0..copies.len() {
         let caught = &copies[i];
         keys.push(Keyed {
@@ -257,27 +248,35 @@ fn keys_of(
     Ok(keys)
 }
 
-/// A sighting that begins with a copy.
-fn begun(caught: &Caught<'_>, i: u32, frame: u32, point: usize, order: u64) -> Sighting
-    requires { point < 64 }
-    ensures { result ≡ begun caught.now i frame point order }
+/// A sighting that begins with a copy, by how often its direction carried its frame before.
+fn begun(
+    ring: &Ring<'_>,
+    caught: &Caught<'_>,
+    carried: u32,
+    i: u32,
+    frame: u32,
+    order: u32,
+) -> Sighting
+    requires point { point_of ring.now caught.now < 64 }
+    requires way { way_of ring.now caught.now < 2 }
+    ensures { result ≡ joined ring.now caught.now carried (begun caught.now i frame (point_of ring.now caught.now) order) }
 {
     Sighting {
         at: caught.at(),
+        other: 0,
         order,
-        moment_0: 0,
-        moment_1: 0,
         first: i,
         frame,
-        point: point as u8,
-        has_0: false,
-        has_1: false,
-        is_more: false,
+        point: ring.point_of(caught) as u8,
+        is_1_first: ring.way_of(caught) == 1,
+        has_other: false,
+        is_more: carried > 0,
     }
 }
 
 /// A sighting with a copy, by how often its direction carried its frame before.
 fn joined(ring: &Ring<'_>, caught: &Caught<'_>, carried: u32, seen: &Sighting) -> Sighting
+    requires { way_of ring.now caught.now < 2 }
     ensures { result ≡ joined ring.now caught.now carried seen.now }
 {
     seen.with(ring.way_of(caught), caught.at(), carried > 0)
@@ -289,14 +288,14 @@ struct Found {
     all: Vec<Sighting>,
     of_copy: Vec<u32>,
     /// How many began at each point.
-    begun: Vec<u64>,
+    begun: Vec<u32>,
 }
 
 /// Counts a frame that begins at a point, and tells how many began there before.
-fn next_at(begun: &mut Vec<u64>, point: usize) -> u64
+fn next_at(begun: &mut Vec<u32>, point: usize) -> u32
     requires { point < length begun.old.items }
     ensures order { result ≡ slice_index begun.old.items point }
-    ensures counts { begun.new.items ≡ slice_set begun.old.items point (min (slice_index begun.old.items point + 1) (2 ^ 64 - 1)) }
+    ensures counts { begun.new.items ≡ slice_set begun.old.items point (min (slice_index begun.old.items point + 1) (2 ^ 32 - 1)) }
 {
     let order = begun[point];
     begun[point] = order.saturating_add(1);
@@ -314,18 +313,18 @@ fn put_begun(
 ) -> Result<(), NoMemory>
     requires point { point_of ring.now caught.now < length found.old.begun.items }
     requires place { point_of ring.now caught.now < 64 }
+    requires way { way_of ring.now caught.now < 2 }
     requires few { length found.old.all.items < 2 ^ 32 }
     ensures all { OnOk result (found.new.all.items ≡ found.old.all.items
         ++ joined ring.now caught.now carried (begun caught.now i frame (point_of ring.now caught.now) (slice_index found.old.begun.items (point_of ring.now caught.now))) ∷ []) }
     ensures of_copy { OnOk result (found.new.of_copy.items ≡ found.old.of_copy.items ++ length found.old.all.items ∷ []) }
     ensures counts { OnOk result (found.new.begun.items
-        ≡ slice_set found.old.begun.items (point_of ring.now caught.now) (min (slice_index found.old.begun.items (point_of ring.now caught.now) + 1) (2 ^ 64 - 1))) }
+        ≡ slice_set found.old.begun.items (point_of ring.now caught.now) (min (slice_index found.old.begun.items (point_of ring.now caught.now) + 1) (2 ^ 32 - 1))) }
 {
-    let point = ring.point_of(caught);
-    let order = next_at(&mut found.begun, point);
+    let order = next_at(&mut found.begun, ring.point_of(caught));
     let number = found.all.len() as u32;
-    let seen = begun(caught, i, frame, point, order);
-    found.all.push(joined(ring, caught, carried, &seen))?;
+    let seen = begun(ring, caught, carried, i, frame, order);
+    found.all.push(seen)?;
     found.of_copy.push(number)?;
     Ok(())
 }
@@ -338,7 +337,8 @@ fn put_joined(
     number: u32,
     carried: u32,
 ) -> Result<(), NoMemory>
-    requires { number < length found.old.all.items }
+    requires number { number < length found.old.all.items }
+    requires way { way_of ring.now caught.now < 2 }
     ensures all { OnOk result ((seen : Sighting) → slice_get found.old.all.items number ≡ Some seen
         → found.new.all.items ≡ slice_set found.old.all.items number (joined ring.now caught.now carried seen)) }
     ensures of_copy { OnOk result (found.new.of_copy.items ≡ found.old.of_copy.items ++ number ∷ []) }
@@ -364,6 +364,7 @@ fn put_copy(
     requires read { AreRead copies.now firsts.now }
     requires carried { TellsEach carried_before copies.now carried.now }
     requires places { HasPlaces ring.now }
+    requires ways { HasWays ring.now }
     requires below { i < length copies.now }
     requires found { AreFound ring.now copies.now i found.old.all.items found.old.of_copy.items found.old.begun.items }
     requires previous { IsPreviousSighting ring.now copies.now i previous }
@@ -406,13 +407,16 @@ pub fn sightings_of(
     requires read { AreRead copies.now firsts.now }
     requires carried { TellsEach carried_before copies.now carried.now }
     requires places { HasPlaces ring.now }
+    requires ways { HasWays ring.now }
     ensures { IfOk result (λ found. AreSightings ring.now copies.now found.all.items found.of_copy.items) }
 {
     let previous = previous_seen(alloc, ring, copies, firsts)?;
+    // As much room is taken as is needed, so that the room of the keys, which went, is enough for it.
+    let many = previous.iter().filter(|found| found.is_none()).count();
     let mut found = Found {
-        all: Vec::new(alloc),
-        of_copy: Vec::new(alloc),
-        begun: vec![in alloc; 0u64; POINTS as usize]?,
+        all: Vec::with_capacity(alloc, many)?,
+        of_copy: Vec::with_capacity(alloc, copies.len())?,
+        begun: vec![in alloc; 0u32; POINTS as usize]?,
     };
     for i in 0..copies.len() {
         put_copy(&mut found, ring, copies, firsts, carried, previous[i], i)?;

@@ -1,9 +1,9 @@
 -- The copies and the strays among packets, and what is told of each direction.
-use Rattle.std.proofs.Common.{◌≡◌, ℕ, zero, suc, ◌+◌, ◌-◌, ◌*◌, ◌<◌, ◌≤◌, ◌^◌, ◌%◌, ◌&&◌, min, IsSome, Bool, true, false, cond, List, [], ◌∷◌, ◌++◌, length, map, set, take, get_or, ◌⊎◌, inl, inr, refl, sym, ap, subst, ◌∙◌, arith, Option, Some, None}
+use Rattle.std.proofs.Common.{◌≡◌, ℕ, zero, suc, ◌+◌, ◌-◌, ◌*◌, ◌<◌, ◌≤◌, ◌^◌, ◌%◌, ◌&&◌, min, IsSome, Bool, true, false, cond, List, [], ◌∷◌, ◌++◌, length, map, set, get_or, ◌⊎◌, inl, inr, refl, sym, ap, subst, ◌∙◌, arith, Option, Some, None}
 use Rattle.std.specs.List.{cons_option}
-use Rattle.std.specs.Prelude.{nat_eq, filter_map, option_map, option_to_list, slice_get, slice_index, Result, Ok, Err}
+use Rattle.std.specs.Prelude.{nat_eq, filter_map, option_map, option_to_list, reverse, slice_get, slice_index, Result, Ok, Err}
 use Rattle.std.proofs.lemmas.Bool.{cases_lt, and_from, and_left, and_right, eq-eqb, ne_eqb}
-use Rattle.std.proofs.lemmas.List.{take_more}
+use Rattle.std.proofs.lemmas.List.{append_assoc, reverse-append}
 use Rattle.std.proofs.lemmas.List.Elements.{filter_map-append}
 use Rattle.std.proofs.lemmas.List.Sums.{count_by-le-length, length-filter, sum_by_push}
 use Rattle.std.proofs.lemmas.Option.{get_or_from_slice_get, same_Some, slice_get-get_or, slice_get-map, slice_get_past, slice_get_within, unwrap_or-slice_get}
@@ -37,11 +37,18 @@ one_found {X} {Y} f x = by_case (f x)
     by_case None = refl
     by_case (Some y) = refl
 
-pub found_more : {X Y : Type 0} (f : X → Option Y) (xs : List X) (i : ℕ) (d : X) (old new : List Y) → i < length xs → old ≡ filter_map f (take i xs)
-    → new ≡ old ++ option_to_list (f (get_or xs i d)) → new ≡ filter_map f (take (i + 1) xs)
-found_more f xs i d old new below old_is new_is =
-    new_is ∙ ap (λ l. l ++ option_to_list (f (get_or xs i d))) old_is
-    ∙ sym (ap (filter_map f) (take_more xs i d below) ∙ filter_map-append f (take i xs) (get_or xs i d ∷ []) ∙ ap (λ l. filter_map f (take i xs) ++ l) (one_found f (get_or xs i d)))
+alone_reversed : {X : Type 0} (o : Option X) → reverse (option_to_list o) ≡ option_to_list o
+alone_reversed None = refl
+alone_reversed (Some x) = refl
+
+-- what is found in the last one goes over to those that were found
+pub found_last : {X Y : Type 0} (f : X → Option Y) (before left : List X) (x : X) (old new all : List Y) → before ≡ left ++ x ∷ []
+    → filter_map f before ++ reverse old ≡ all → new ≡ old ++ option_to_list (f x) → filter_map f left ++ reverse new ≡ all
+found_last f before left x old new all is old_is new_is =
+    ap (λ l. filter_map f left ++ l) (ap reverse new_is ∙ reverse-append old (option_to_list (f x)) ∙ ap (λ l. l ++ reverse old) (alone_reversed (f x)))
+    ∙ sym (append_assoc (filter_map f left) (option_to_list (f x)) (reverse old))
+    ∙ ap (λ l. l ++ reverse old) (sym (ap (filter_map f) is ∙ filter_map-append f left (x ∷ []) ∙ ap (λ l. filter_map f left ++ l) (one_found f x)))
+    ∙ old_is
 
 -- ---- where a copy comes from
 

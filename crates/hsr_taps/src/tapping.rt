@@ -1,5 +1,5 @@
 //! The copies and the strays of a capture.
-ghost use Rattle.std.specs.Prelude.{◌≡◌, ℕ, ◌+◌, ◌%◌, ◌<◌, ◌≤◌, ◌^◌, ◌++◌, ◌∷◌, [], List, Bool, length, map, option_to_list, slice_get, IfOk, IsSome, OnOk};
+ghost use Rattle.std.specs.Prelude.{◌≡◌, ℕ, ◌+◌, ◌%◌, ◌<◌, ◌≤◌, ◌^◌, ◌++◌, ◌∷◌, [], List, Bool, length, map, option_to_list, reverse, slice_get, IfOk, IsSome, OnOk};
 ghost use Rattle.hsr_frame_groups.specs.Frames.{CaughtFields};
 ghost use Rattle.hsr_taps.specs.Came.{AreInOrder, AreLaneCounts, ArePackets, ArePointsOf, IsTapped, AreSumsBy, AreTalliesBy, AreWaysBy, caught_in, copies_in, owner_by, stray_in, strays_in, tally_if, taps_at, way_by};
 ghost use Rattle.hsr_taps.specs.Directions.{interface_of};
@@ -105,24 +105,56 @@ fn put_packet<'a>(
     Ok(())
 }
 
-/// The copies and the strays among packets.
-fn sorted_out<'a>(
+/// How many packets go before their room is given back.
+const AT_ONCE: usize = 65_536;
+
+/// Gives back the room of packets that went, now and then: each time costs a call of the system.
+fn give_back(left: &mut Vec<Packet<'_>>)
+    ensures { left.new.items ≡ left.old.items }
+{
+    if left.len() % AT_ONCE == 0 {
+        left.shrink_to_fit();
+    }
+}
+
+/// The copies and the strays among packets, the last first, so that the packets go as the copies come: a large capture has room for one of
+/// both lists. The copies' room is taken at once, as it is used page by page.
+fn sorted_back<'a>(
     alloc: Global,
-    packets: &[Packet<'a>],
+    packets: Vec<Packet<'a>>,
     looked_at: &[bool],
     taps: &[Taps],
 ) -> Result<SortedOut<'a>, NoMemory>
     requires { length taps.now ≤ 64 }
-    ensures copies { IfOk result (λ sorted. sorted.copies.items ≡ copies_in looked_at.now taps.now packets.now) }
-    ensures strays { IfOk result (λ sorted. sorted.strays.items ≡ strays_in looked_at.now taps.now packets.now) }
+    ensures copies { IfOk result (λ sorted. reverse sorted.copies.items ≡ copies_in looked_at.now taps.now packets.entry.items) }
+    ensures strays { IfOk result (λ sorted. reverse sorted.strays.items ≡ strays_in looked_at.now taps.now packets.entry.items) }
 {
+    let mut left = packets;
     let mut sorted = SortedOut {
-        copies: Vec::new(alloc),
+        copies: Vec::with_capacity(alloc, left.len())?,
         strays: Vec::new(alloc),
     };
-    for packet in packets {
-        put_packet(&mut sorted, taps_at(looked_at, taps, packet), packet)?;
+    while let Some(packet) = left.pop() {
+        put_packet(&mut sorted, taps_at(looked_at, taps, &packet), &packet)?;
+        give_back(&mut left);
     }
+    Ok(sorted)
+}
+
+/// The copies and the strays among packets.
+fn sorted_out<'a>(
+    alloc: Global,
+    packets: Vec<Packet<'a>>,
+    looked_at: &[bool],
+    taps: &[Taps],
+) -> Result<SortedOut<'a>, NoMemory>
+    requires { length taps.now ≤ 64 }
+    ensures copies { IfOk result (λ sorted. sorted.copies.items ≡ copies_in looked_at.now taps.now packets.entry.items) }
+    ensures strays { IfOk result (λ sorted. sorted.strays.items ≡ strays_in looked_at.now taps.now packets.entry.items) }
+{
+    let mut sorted = sorted_back(alloc, packets, looked_at, taps)?;
+    sorted.copies.reverse();
+    sorted.strays.reverse();
     Ok(sorted)
 }
 
@@ -241,22 +273,22 @@ fn tallies_if(
     Ok(all)
 }
 
-/// What came by the taps of a capture, whose packets are in the order of time. `NoMemory` where room is refused.
+/// What came by the taps of a capture, whose packets are in the order of time; they go. `NoMemory` where room is refused.
 pub fn tap<'a>(
     alloc: Global,
     interfaces: &[Interface<'a>],
-    packets: &[Packet<'a>],
+    packets: Vec<Packet<'a>>,
     choice: &Choice<'a>,
 ) -> Result<Tapped<'a>, NoMemory>
     requires interfaces { length interfaces.now ≤ 64 }
-    requires packets { length packets.now < 2 ^ 32 }
-    requires numbers { ArePackets packets.now }
-    requires time { AreInOrder packets.now }
-    ensures { IfOk result (λ tapped. (looked : List Bool) × IsTapped choice.now interfaces.now packets.now looked tapped) }
+    requires packets { length packets.items < 2 ^ 32 }
+    requires numbers { ArePackets packets.items }
+    requires time { AreInOrder packets.items }
+    ensures { IfOk result (λ tapped. (looked : List Bool) × IsTapped choice.now interfaces.now packets.entry.items looked tapped) }
 {
     let looked = looked_at(alloc, interfaces, choice)?;
     let looked_at = looked.as_slice();
-    let tallies = tallies_of(alloc, packets, looked_at)?;
+    let tallies = tallies_of(alloc, packets.as_slice(), looked_at)?;
     let counted = tallies.as_slice();
     let taps = taps_of(alloc, choice.taps, counted)?;
     let by_interface = taps.as_slice();

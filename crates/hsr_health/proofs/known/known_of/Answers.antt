@@ -1,85 +1,36 @@
-use Rattle.std.proofs.Common.{◌≡◌, ℕ, ◌<◌, ◌^◌, ◌∙◌, List, [], ap, arith, length, map, subst, sym, Some}
+use Rattle.std.proofs.Common.{◌∙◌, ap, length, subst, sym}
 use Rattle.hsr_health.specs.Counted.{AreSources, mark_of}
-use Rattle.std.specs.Prelude.{filter_map, slice_get}
-use Rattle.std.proofs.lemmas.Option.{slice_get-get_or, slice_get_within}
-use Rattle.hsr_health.specs.Loads.{capped}
-use Rattle.hsr_health.specs.declared.counts.Counts.{Counts}
-use Rattle.hsr_heard.specs.Hearing.{heard_at, those_of}
-use Rattle.hsr_health.specs.Numbering.{AreGroups, IsLedger, group_name, life_number, numbered_at}
-use Rattle.hsr_health.specs.Whole.{lanes_of, lives_of, unreadable_of}
-use Rattle.std.proofs.lemmas.List.{length-map}
-use Rattle.hsr_health.proofs.Gapping.{groups_small}
-use Rattle.hsr_health.proofs.Measuring.{alike_on, of_sources_alike, short_those}
-use Rattle.hsr_heard.specs.Subjects.{AreAbouts}
-use Rattle.hsr_sightings.specs.Ring.{Ring}
+use Rattle.hsr_health.specs.Whole.{AreAlike, HaveLives}
+use Rattle.hsr_health.proofs.Measuring.{of_sources_alike}
 use Rattle.hsr_sightings.specs.Read.{AreSightings, TellsEach}
-use Rattle.hsr_taps.specs.Tallies.{is_at}
 use Rattle.hsr_health.proofs.known.known_of.Goals as goal
-
-pub life_runs-requires : goal.life_runs-requires
-life_runs-requires c =
-    omega (
-      arith,
-      ap length c.as_slice-3.ensures.value,
-      ap length c.in_ok-heard.ensures.read,
-      short_those (heard_at c.args.ring.now) c.args.copies.now 0 c.args.copies.now,
-      c.requires.caught.few,
-    )
-
-pub frame_runs-requires-clause-small : goal.frame_runs-requires-clause-small
-frame_runs-requires-clause-small c =
-    let macs = c.as_slice-macs.result.now in
-    let told = c.as_slice-told.result.now in
-    let groups = c.in_ok-groups.groups.items in
-    subst (λ (l : List ℕ). (k group : ℕ) → slice_get l k ≡ Some group → group < 2 ^ 32) (sym c.as_slice-of_source.ensures.value)
-    (groups_small (map (group_name told) macs) groups c.in_ok-groups.ensures.groups (c.in_ok-groups.ensures.long ∙ sym (length-map macs (group_name told)))
-    (omega (arith, length-map macs (group_name told), ap length c.as_slice-macs.ensures.value, c.requires.few)))
 
 pub returns : goal.returns
 returns c =
     let ring = c.args.ring.now in
     let copies = c.args.copies.now in
     let sources = c.args.sources.now in
+    let devices = c.requires.devices in
     let numbers = c.args.seen.now.sightings.of_copy.items in
+    let counts = c.in_ok-counts.counts.items in
     let told = subst (AreSources copies sources.macs.items) (sym c.as_slice-of_copy.ensures.value) c.requires.sources in
-    let seen = c.requires.seen.1 in
-    let lanes = is_at (lanes_of c.requires.seen.0) in
-    let of_copy = c.as_slice-of_copy.ensures.value in
-    let many : c.len-many.result ≡ length sources.macs.items = c.len-many.ensures ∙ sources.macs.ok.0 in
-    let placed = c.in_ok-placed.ensures lanes ring (subst (TellsEach (mark_of lanes ring) copies) (sym c.as_slice-marks.ensures.value) seen.marks) in
-    let numbered = ap (λ l. those_of (numbered_at l c.as_slice-of_source.result.now) copies) of_copy ∙ ap (λ l. those_of (numbered_at sources.of_copy.items l) copies) c.as_slice-of_source.ensures.value in
-    let said = ap (λ l. filter_map (life_number l) c.as_slice-3.result.now) of_copy
-    ∙ ap (filter_map (life_number sources.of_copy.items)) c.as_slice-3.ensures.value in
     let sightings = subst (λ l. AreSightings ring copies l numbers) (sym c.as_slice-all.ensures.value) c.requires.seen.1.sightings in
-    let none_at = λ (k : ℕ) (own : Counts) (here : slice_get c.in_ok-counts.counts.items k ≡ Some own).
-    let within = slice_get_within c.in_ok-counts.counts.items k own here in
-    let long = c.in_ok-counts.ensures.long in
-    c.in_ok-counts.ensures.lives lanes sources.macs.items numbers (subst (TellsEach (mark_of lanes ring) copies) (sym c.as_slice-marks.ensures.value) seen.marks) told sightings k _ own (slice_get-get_or sources.macs.items k [] (omega (arith, within, long, many))) here in
+    let alike = subst (λ l. AreAlike l counts) c.as_slice.ensures.value c.in_ok-counts.ensures.alike in
+    let lives = subst (λ l. HaveLives l counts) c.as_slice-2.ensures.value c.in_ok-counts.ensures.lives in
     record {
-      counted = c.count_unread.ensures.long ∙ c.count_lives.ensures.long ∙ c.in_ok-counts.ensures.long ∙ c.len-many.ensures ∙ sources.macs.ok.0;
+      counted = c.in_ok-counts.ensures.long ∙ ap length c.as_slice.ensures.value ∙ c.in_ok-bare.ensures.long ∙ c.len-many.ensures ∙ sources.macs.ok.0;
       counts = λ is_by_lane marks.
-          of_sources_alike ring is_by_lane sources.macs.items _ c.in_ok-counts.counts.items c.count_unread.new.counts.items
-          (c.in_ok-counts.ensures.counts is_by_lane sources.macs.items numbers (subst (TellsEach (mark_of is_by_lane ring) copies) (sym c.as_slice-marks.ensures.value) marks) told sightings)
-          (alike_on c.in_ok-counts.counts.items c.count_lives.new.counts.items c.count_unread.new.counts.items c.count_lives.ensures.alike c.count_unread.ensures.alike);
-      grouped = c.in_ok-groups.ensures.long ∙ ap length c.as_slice-macs.ensures.value;
-      groups = subst (λ l. AreGroups (map (group_name l) sources.macs.items) c.in_ok-groups.groups.items) c.as_slice-told.ensures.value
-          (subst (λ l. AreGroups (map (group_name c.as_slice-told.result.now) l) c.in_ok-groups.groups.items) c.as_slice-macs.ensures.value c.in_ok-groups.ensures.groups);
-      heard = c.in_ok-heard.field-0.heard.items;
-      unread = c.in_ok-heard.field-0.unread.items;
-      are_heard = c.in_ok-heard.ensures;
-      lives_are = λ k own here.
-          let read = c.count_unread.ensures.others k own here in
-          let first = c.count_lives.ensures.lives k read.0 read.1 in
-          let none = none_at k first.0 first.1 in
-          read.2 ∙ first.2 none.0 ∙ ap (λ l. capped (lives_of l c.as_slice.result.now k)) of_copy ∙ ap (λ l. capped (lives_of sources.of_copy.items l k)) c.as_slice.ensures.value;
-      unreadable_are = λ k own here.
-          let read = c.count_unread.ensures.unreadable k own here in
-          let before = c.count_lives.ensures.others k read.0 read.1 in
-          let none = none_at k before.0 before.1 in
-          read.2 (before.2 ∙ none.1) ∙ ap (λ l. capped (unreadable_of l c.as_slice-2.result.now k)) of_copy ∙ ap (λ l. capped (unreadable_of sources.of_copy.items l k)) c.as_slice-2.ensures.value;
-      abouts = subst (λ (r : Ring). AreAbouts c.in_ok-heard.field-0.heard.items r.start r.end c.in_ok-abouts.abouts.all.items c.in_ok-abouts.abouts.silences.items) c.ring.view_is c.in_ok-abouts.ensures;
-      ledger = subst (λ n. IsLedger (those_of (numbered_at sources.of_copy.items c.in_ok-groups.groups.items) copies) n c.in_ok-ledger.ledger) many
-          (subst (λ l. IsLedger l c.len-many.result c.in_ok-ledger.ledger) numbered (c.in_ok-ledger.ensures _ placed));
-      lives = subst (λ n. IsLedger (filter_map (life_number sources.of_copy.items) c.in_ok-heard.field-0.heard.items) n c.in_ok-lives.lives) many
-          (subst (λ l. IsLedger l c.len-many.result c.in_ok-lives.lives) said (c.in_ok-lives.ensures _ c.in_ok-said.ensures));
+          of_sources_alike ring is_by_lane sources.macs.items _ c.in_ok-bare.bare.items counts
+          (c.in_ok-bare.ensures.counts is_by_lane sources.macs.items numbers (subst (TellsEach (mark_of is_by_lane ring) copies) (sym c.as_slice-marks.ensures.value) marks) told sightings)
+          alike;
+      grouped = devices.grouped;
+      groups = devices.groups;
+      heard = devices.heard;
+      unread = devices.unread;
+      are_heard = devices.are_heard;
+      lives_are = λ k own here. let its = lives k own here in its.2.0 ∙ devices.lives_are k its.0 its.1;
+      unreadable_are = λ k own here. let its = lives k own here in its.2.1 ∙ devices.unreadable_are k its.0 its.1;
+      abouts = devices.abouts;
+      ledger = devices.ledger;
+      lives = devices.lives;
     }

@@ -1,9 +1,8 @@
-use Rattle.std.proofs.Common.{[], ap, arith, length, refl, subst}
+use Rattle.std.proofs.Common.{ap, arith, length, refl, subst}
 use Rattle.std.proofs.lemmas.Option.{slice_get_read}
 use Rattle.hsr_frame_groups.specs.Frames.{past_of}
-use Rattle.hsr_health.specs.Counted.{mark_of}
 use Rattle.hsr_health.specs.Numbering.{numbered_at}
-use Rattle.hsr_health.proofs.Gapping.{number_is, one_more_at_most}
+use Rattle.hsr_health.proofs.Gapping.{number_is, numbered_is, one_more_at_most}
 use Rattle.hsr_heard.proofs.Telling.{those_end, those_more}
 use Rattle.hsr_number_runs.specs.Runs.{AreRunsOf}
 use Rattle.hsr_health.proofs.ledger.frame_runs.Goals as goal
@@ -11,29 +10,27 @@ use Rattle.hsr_health.proofs.ledger.frame_runs.Goals as goal
 pub loop-i-init : goal.loop-i-init
 loop-i-init c =
     let none = c.in_ok-so_far.ensures in
-    (omega (arith, ap length none), λ is_by_lane ring told. rw none refl)
+    (omega (arith, ap length none), rw none refl)
 
 pub loop-i-preserved : goal.loop-i-preserved
 loop-i-preserved c =
     let copies = c.args.copies.now in
-    let marks = c.args.marks.now in
     let of_copy = c.args.of_copy.now in
     let groups = c.args.groups.now in
     let i = c.loop-i.i in
     let own = c.index-copies-i.result in
     let here = slice_get_read copies _ i own refl (omega arith) c.index-copies-i.is in
     let before = c.loop-i.invariant in
-    let number = c.number_if-number.result in (
+    let number = c.number_if-number.result in
+    let has = numbered_is c.args.began.now c.args.clashes.now i _ _ _ _ _ (c.requires.began.each i own here) (c.requires.clashes.each i own here) c.is_numbered-has_number.ensures in (
       one_more_at_most c.loop-i.so_far _ number i c.in_ok-so_far-2.ensures before.0,
-      λ is_by_lane ring told.
-          those_more (numbered_at of_copy groups) copies i own c.loop-i.so_far _ _ number here
-          (number_is of_copy groups marks i _ _ own (mark_of is_by_lane ring (past_of copies i) own) _ number (told.each i own here) (omega (arith, c.requires.marks)) c.sender_of-sender.ensures
-          c.group_of-group.ensures c.number_if-number.ensures (past_of copies i) refl refl)
-          c.in_ok-so_far-2.ensures (before.1 is_by_lane ring told),
+      those_more (numbered_at of_copy groups) copies i own c.loop-i.so_far _ _ number here
+          (number_is of_copy groups i _ _ _ own number c.sender_of-sender.ensures c.group_of-group.ensures c.number_if-number.ensures (past_of copies i) has)
+          c.in_ok-so_far-2.ensures before.1,
     )
 
 pub returns : goal.returns
-returns c = λ is_by_lane ring told.
+returns c =
     let before = c.loop-i.invariant in
     subst (λ l. AreRunsOf l c.runs.result)
-    (those_end (numbered_at c.args.of_copy.now c.args.groups.now) c.args.copies.now c.loop-i.i c.loop-i.so_far _ (omega arith) (before.1 is_by_lane ring told)) c.runs.ensures
+    (those_end (numbered_at c.args.of_copy.now c.args.groups.now) c.args.copies.now c.loop-i.i c.loop-i.so_far _ (omega arith) before.1) c.runs.ensures

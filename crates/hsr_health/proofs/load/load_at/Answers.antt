@@ -10,4 +10,4 @@ pub returns : goal.returns
 returns c = λ few.
     let same = c.as_slice.ensures.value ∙ c.in_ok-own.ensures in
     let looked : c.args.is_looked_at ≡ true = search rules in
-    c.in_ok-load.ensures (subst (λ l. load_of l < 2 ^ 128) (sym same) few) ∙ ap load_by same ∙ ap (λ b. load_if b (own_packets c.args.interface c.args.packets.now)) (sym looked)
+    c.load_of.ensures (subst (λ l. load_of l < 2 ^ 128) (sym same) few) ∙ ap load_by same ∙ ap (λ b. load_if b (own_packets c.args.interface c.args.packets.now)) (sym looked)

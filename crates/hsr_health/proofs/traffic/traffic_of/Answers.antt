@@ -3,7 +3,7 @@ use Rattle.std.specs.Prelude.{slice_get}
 use Rattle.std.proofs.lemmas.List.Sorted.{length_permutation}
 use Rattle.hsr_capture_reader.specs.Capture.{CaptureFields}
 use Rattle.hsr_packet_order.specs.Disorder.{disorder_of}
-use Rattle.hsr_taps.specs.Came.{AreInOrder, ArePackets, IsTapped}
+use Rattle.hsr_taps.specs.Came.{AreInOrder, IsTapped}
 use Rattle.hsr_health.specs.Loads.{AreLoads}
 use Rattle.hsr_health.specs.Whole.{IsInTime, end_by, moment_or}
 use Rattle.hsr_health.proofs.Capturing.{in_order_from, own_numbers_from}
@@ -14,15 +14,15 @@ use Rattle.hsr_health.proofs.traffic.traffic_of.Goals as goal
 pub tap-requires-clause-packets : goal.tap-requires-clause-packets
 tap-requires-clause-packets c =
     let in_time = subst (λ l. IsInTime l c.in_ok-sorted.sorted.items) (ap (λ (x : CaptureFields). x.packets) c.capture.view_is) c.in_ok-sorted.ensures in
-    omega (arith, ap length c.as_slice-in_order.ensures.value, length_permutation _ _ in_time.same, c.requires.packets)
+    omega (arith, length_permutation _ _ in_time.same, c.requires.packets)
 
 pub tap-requires-clause-numbers : goal.tap-requires-clause-numbers
 tap-requires-clause-numbers c =
     let in_time = subst (λ l. IsInTime l c.in_ok-sorted.sorted.items) (ap (λ (x : CaptureFields). x.packets) c.capture.view_is) c.in_ok-sorted.ensures in
-    subst ArePackets (sym c.as_slice-in_order.ensures.value) (own_numbers_from c.args.capture.packets c.in_ok-sorted.sorted.items in_time.same c.requires.numbers)
+    own_numbers_from c.args.capture.packets c.in_ok-sorted.sorted.items in_time.same c.requires.numbers
 
 pub tap-requires-clause-time : goal.tap-requires-clause-time
-tap-requires-clause-time c = subst AreInOrder (sym c.as_slice-in_order.ensures.value) (in_order_from c.in_ok-sorted.sorted.items c.in_ok-sorted.ensures.sorted)
+tap-requires-clause-time c = in_order_from c.in_ok-sorted.sorted.items c.in_ok-sorted.ensures.sorted
 
 pub loads_of-requires : goal.loads_of-requires
 loads_of-requires c = subst AreInOrder (sym c.as_slice-in_order.ensures.value) (in_order_from c.in_ok-sorted.sorted.items c.in_ok-sorted.ensures.sorted)
@@ -38,8 +38,7 @@ returns c =
     let by_number = c.as_slice-by_number.ensures.value ∙ ap (λ (x : CaptureFields). x.interfaces) c.capture.view_is in
     let looked = c.in_ok-looked.looked.items in
     let looks = subst (λ l. AreLookedAt choice l looked) by_number c.in_ok-looked.ensures in
-    let tap_is = subst (λ l. IsTapped choice l sorted c.in_ok-tapped.ensures.0 tapped) by_number
-    (subst (λ l. IsTapped choice c.as_slice-by_number.result.now l c.in_ok-tapped.ensures.0 tapped) c.as_slice-in_order.ensures.value c.in_ok-tapped.ensures.1) in
+    let tap_is = subst (λ l. IsTapped choice l sorted c.in_ok-tapped.ensures.0 tapped) by_number c.in_ok-tapped.ensures.1 in
     record {
       packets = sorted;
       in_time = subst (λ l. IsInTime l sorted) packets c.in_ok-sorted.ensures;

@@ -1,4 +1,4 @@
-use Rattle.std.proofs.Common.{ap, arith, refl, rules}
+use Rattle.std.proofs.Common.{arith, refl, rules}
 use Rattle.std.specs.Prelude.{slice_index}
 use Rattle.std.proofs.lemmas.Option.{slice_get_read, slice_get_within}
 use Rattle.hsr_frame_groups.specs.Frames.{CaughtFields}

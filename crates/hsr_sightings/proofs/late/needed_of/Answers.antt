@@ -1,6 +1,6 @@
 use Rattle.std.proofs.Common.{◌+◌, ◌∙◌, arith, refl, subst, sym}
 use Rattle.std.specs.Prelude.{slice_index}
-use Rattle.std.proofs.lemmas.Option.{slice_get-get_or, slice_get_read}
+use Rattle.std.proofs.lemmas.Option.{slice_get_read}
 use Rattle.hsr_sightings.specs.Demand.{IsDemand}
 use Rattle.hsr_sightings.proofs.Demanding.{demand_step, number_within, numbered_at}
 use Rattle.hsr_sightings.proofs.late.needed_of.Goals as goal

@@ -11,8 +11,8 @@ all_three : {T E P Q R S : Type 0} (r : Result T E) → OnOk r P → OnOk r Q �
 all_three (Ok x) p q r f = f p q r
 all_three (Err e) p q r f = tt
 
-pub put_joined-requires : goal.put_joined-requires
-put_joined-requires c =
+pub put_joined-requires-clause-number : goal.put_joined-requires-clause-number
+put_joined-requires-clause-number c =
     let copies = c.args.copies.now in
     let i = c.args.i in
     let x = c.index-copies-i.result in

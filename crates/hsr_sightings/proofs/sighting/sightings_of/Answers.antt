@@ -1,9 +1,7 @@
 use Rattle.std.proofs.Common.{◌<◌, None, arith, length, subst, sym}
 use Rattle.std.proofs.lemmas.List.{get_or_read}
-use Rattle.hsr_frame_groups.specs.Frames.{frame_time}
-use Rattle.hsr_previous.specs.Previous.{AreInTime, ArePrevious}
 use Rattle.hsr_sightings.specs.Finding.{IsPreviousSighting}
-use Rattle.hsr_sightings.proofs.Gathering.{all_found, keys_in_time, previous_is}
+use Rattle.hsr_sightings.proofs.Gathering.{all_found, previous_is}
 use Rattle.hsr_sightings.proofs.sighting.sightings_of.Goals as goal
 
 pub put_copy-requires-clause-previous : goal.put_copy-requires-clause-previous

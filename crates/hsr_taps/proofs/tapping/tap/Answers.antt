@@ -3,7 +3,7 @@ use Rattle.std.proofs.lemmas.List.{length-map}
 use Rattle.std.specs.Prelude.{slice_get}
 use Rattle.hsr_frame_groups.specs.Frames.{AreInTime}
 use Rattle.hsr_taps.specs.Came.{copies_in, strays_in, AreTalliesBy, AreLaneCounts, ArePointsOf, HaveOwnNumbers, caught_in, taps_at}
-use Rattle.hsr_taps.specs.Tallies.{AreLookedAt, HaveRoom, taps_by}
+use Rattle.hsr_taps.specs.Tallies.{AreLookedAt, AreTallies, HaveRoom, taps_by}
 use Rattle.hsr_taps.proofs.Coming.{copies_in_time, directions_below, few_copies, few_found, few_looked, have_room, own_numbers, places_below, sums_are, tallies_are, taps_are, ways_are}
 use Rattle.hsr_taps.proofs.Naming.{few_names}
 use Rattle.hsr_taps.proofs.tapping.tap.Goals as goal
@@ -11,7 +11,8 @@ use Rattle.hsr_taps.proofs.tapping.tap.Goals as goal
 pub taps_of-requires : goal.taps_of-requires
 taps_of-requires c =
     subst HaveRoom (sym c.as_slice-counted.ensures.value)
-    (have_room c.as_slice-looked_at.result.now c.args.packets.now c.in_ok-tallies.tallies.items c.requires.packets c.in_ok-tallies.ensures.tallies)
+    (have_room c.as_slice-looked_at.result.now c.args.packets.items c.in_ok-tallies.tallies.items c.requires.packets
+    (subst (λ l. AreTallies c.as_slice-looked_at.result.now l c.in_ok-tallies.tallies.items) c.as_slice.ensures.value c.in_ok-tallies.ensures.tallies))
 
 pub sorted_out-requires : goal.sorted_out-requires
 sorted_out-requires c =
@@ -36,11 +37,12 @@ pub returns : goal.returns
 returns c =
     let choice = c.args.choice.now in
     let interfaces = c.args.interfaces.now in
-    let packets = c.args.packets.now in
+    let packets = c.args.packets.items in
     let looked = c.as_slice-looked_at.result.now in
     let looks = subst (AreLookedAt choice interfaces) (sym c.as_slice-looked_at.ensures.value) c.in_ok-looked.ensures in
     let few = few_looked choice interfaces looked looks in
     let tallies = c.in_ok-tallies.tallies.items in
+    let tallied = subst (λ l. AreTallies looked l tallies) c.as_slice.ensures.value c.in_ok-tallies.ensures.tallies in
     let counted = c.as_slice-counted.ensures.value in
     let taps = c.in_ok-taps.taps.items in
     let taps_is = c.in_ok-taps.ensures ∙ ap (λ x. map (taps_by x.taps) c.as_slice-counted.result.now) c.choice.view_is ∙ ap (map (taps_by choice.taps)) counted in
@@ -62,9 +64,9 @@ returns c =
       record {
         looks = looks;
         long = c.in_ok-told.ensures.long;
-        tallies = tallies_are looked packets tallies c.in_ok-told.told.items (c.in_ok-told.ensures.long ∙ sym c.in_ok-tallies.ensures.long) c.in_ok-tallies.ensures.tallies
+        tallies = tallies_are looked packets tallies c.in_ok-told.told.items (c.in_ok-told.ensures.long ∙ sym c.in_ok-tallies.ensures.long) tallied
             (subst (λ l. AreTalliesBy looked l c.in_ok-told.told.items) counted c.in_ok-told.ensures.tallies);
-        taps = taps_are choice.taps looked packets tallies taps taps_is c.in_ok-tallies.ensures.tallies;
+        taps = taps_are choice.taps looked packets tallies taps taps_is tallied;
         points = c.in_ok-named.ensures.names;
         copies = found;
         strays = c.in_ok-sorted.ensures.strays ∙ ap (λ t. strays_in looked t packets) c.as_slice-by_interface.ensures.value;

@@ -2,7 +2,7 @@ use Rattle.std.proofs.Common.{◌∙◌, ap, arith, set}
 use Rattle.hsr_health.specs.Whole.{one_life}
 use Rattle.hsr_health.specs.declared.counts.Counts.{Counts}
 use Rattle.hsr_health.proofs.Sourcing.{changed_past, changed_put}
-use Rattle.hsr_health.proofs.known.count_life.Goals as goal
+use Rattle.hsr_health.proofs.devices.count_life.Goals as goal
 
 pub returns-then-source-len-clause-counts : goal.returns-then-source-len-clause-counts
 returns-then-source-len-clause-counts c =

@@ -2,7 +2,7 @@ use Rattle.std.proofs.Common.{◌∙◌, ap, arith}
 use Rattle.hsr_health.specs.Counted.{changed}
 use Rattle.hsr_health.specs.Whole.{one_unreadable}
 use Rattle.hsr_health.proofs.Living.{unread_more}
-use Rattle.hsr_health.proofs.known.count_unread.Goals as goal
+use Rattle.hsr_health.proofs.devices.count_unread.Goals as goal
 
 pub loop-i-preserved : goal.loop-i-preserved
 loop-i-preserved c =

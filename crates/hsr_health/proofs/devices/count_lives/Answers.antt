@@ -4,7 +4,7 @@ use Rattle.hsr_heard.specs.declared.heard.Heard.{Heard}
 use Rattle.hsr_health.specs.Whole.{AreMore, life_put, lives_of}
 use Rattle.hsr_health.specs.declared.counts.Counts.{Counts}
 use Rattle.hsr_health.proofs.Living.{lives_more}
-use Rattle.hsr_health.proofs.known.count_lives.Goals as goal
+use Rattle.hsr_health.proofs.devices.count_lives.Goals as goal
 
 pub loop-i-preserved : goal.loop-i-preserved
 loop-i-preserved c =

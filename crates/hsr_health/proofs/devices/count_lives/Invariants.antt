@@ -1,6 +1,6 @@
 use Rattle.std.proofs.Common.{take}
 use Rattle.hsr_health.proofs.Living.{AreLives}
-use Rattle.hsr_health.proofs.known.count_lives.Given as goal
+use Rattle.hsr_health.proofs.devices.count_lives.Given as goal
 
 -- those so far
 abbrev pub invariant-loop-i : goal.invariant-loop-i
