@@ -6,12 +6,14 @@ use Rattle.clap.proofs.WalkLemmas.{first_value-rows}
 use Rattle.hsr_table_size.specs.Sizes.{table_of}
 use Rattle.hsr_table_size.specs.declared.size.TableSize.{TableSize}
 use Rattle.hsr_cli.specs.declared.task.Task.{Task}
-use Rattle.hsr_cli.specs.declared.task.Task.TheVariants.{Plan, Check, Run, Sweep, Certify}
+use Rattle.hsr_cli.specs.declared.task.Task.TheVariants.{Plan, Check, Run, Sweep, Certify, Report}
 use Rattle.hsr_cli.specs.Within.{IsWithin}
+use Rattle.hsr_cli.specs.declared.task.ReportWords.{ReportWords}
 use Rattle.hsr_cli.specs.declared.task.SweepWords.{SweepWords}
 use Rattle.hsr_cli.specs.Choices.{Chooses, Chosen, ChosenAlone, ChosenBefore, IsCertify, IsFaults, IsPlanner, IsRun, IsTable, sub_values, values}
 use Rattle.hsr_cli.specs.Playing.{IsTable as IsPlayed}
 use Rattle.hsr_cli.specs.Sweeping.{IsLimit, IsMoment, IsPart, IsSweep}
+use Rattle.hsr_cli.specs.Reporting.{IsReport}
 use Rattle.hsr_cli.proofs.PlayingFound.{showing_same, table_same}
 
 -- ---- a subcommand
@@ -24,14 +26,25 @@ run_same f g (Run size showing folder explains) e h =
     (table_same f g size e h.0, showing_same f g showing e h.1, sym (e (codes "csv")) ∙ h.2, sym (e (codes "explain")) ∙ h.3)
 run_same f g (Sweep asked) e h = h
 run_same f g (Certify size within faults) e h = h
+run_same f g (Report words) e h = h
 
 sweep_same : (f g : Text → Option Text) (asked : SweepWords) → ((id : Text) → f id ≡ g id) → IsSweep f asked → IsSweep g asked
 sweep_same f g asked e h = (
   subst (λ x. IsMoment x asked.at) (e (codes "at-us")) h.0,
-  sym (e (codes "pairs")) ∙ h.1,
-  subst (λ x. IsPart x asked.part) (e (codes "part")) h.2,
-  subst (λ x. IsLimit x asked.limit_load) (e (codes "limit-load")) h.3,
-  subst (λ x. IsLimit x asked.limit_latency) (e (codes "limit-latency")) h.4,
+  sym (e (codes "without-events")) ∙ h.1,
+  sym (e (codes "pairs")) ∙ h.2,
+  subst (λ x. IsPart x asked.part) (e (codes "part")) h.3,
+  subst (λ x. IsLimit x asked.limit_load) (e (codes "limit-load")) h.4,
+  subst (λ x. IsLimit x asked.limit_latency) (e (codes "limit-latency")) h.5,
+)
+
+report_same : (f g : Text → Option Text) (words : ReportWords) → ((id : Text) → f id ≡ g id) → IsReport f words → IsReport g words
+report_same f g words e h = (
+  sym (e (codes "date")) ∙ h.0,
+  subst (λ x. IsMoment x words.at) (e (codes "at-us")) h.1,
+  subst (λ x. IsWithin x words.within) (e (codes "within")) h.2,
+  subst (λ x. IsLimit x words.limit_load) (e (codes "limit-load")) h.3,
+  subst (λ x. IsLimit x words.limit_latency) (e (codes "limit-latency")) h.4,
 )
 
 certify_same : (f g : Text → Option Text) (task : Task) → ((id : Text) → f id ≡ g id) → IsCertify f task → IsCertify g task
@@ -44,6 +57,7 @@ certify_same f g (Certify size within faults) e h = (
   subst (λ x. IsWithin x within) (e (codes "within")) h.1,
   subst (λ x. IsFaults (g (codes "sweep")) x faults) (e (codes "pairs")) (subst (λ x. IsFaults x (f (codes "pairs")) faults) (e (codes "sweep")) h.2),
 )
+certify_same f g (Report words) e h = h
 
 before_same : (check check' table table' : Option Text) (name : Text) (f g : Text → Option Text) (task : Task) → check ≡ check' → table ≡ table' → ((id : Text) → f id ≡ g id)
     → ChosenBefore check table name f task → ChosenBefore check' table' name g task
@@ -54,6 +68,7 @@ before_same check check' table table' name f g (Run size showing folder explains
 before_same check check' table table' name f g (Sweep asked) c t e h = ((sym c ∙ h.0.0, sym t ∙ h.0.1), h.1, sweep_same f g asked e h.2)
 before_same check check' table table' name f g (Certify size within faults) c t e h =
     ((sym c ∙ h.0.0, sym t ∙ h.0.1), h.1, certify_same f g (Certify size within faults) e h.2)
+before_same check check' table table' name f g (Report words) c t e h = ((sym c ∙ h.0.0, sym t ∙ h.0.1), h.1, report_same f g words e h.2)
 
 alone_same : (check check' table table' : Option Text) (task : Task) → check ≡ check' → table ≡ table' → ChosenAlone check table task → ChosenAlone check' table' task
 alone_same check check' table table' task c t h = subst (λ x. ChosenAlone check' x task) t (subst (λ x. ChosenAlone x table task) c h)
@@ -116,6 +131,7 @@ untabled found none Check h = h
 untabled found none (Run size showing folder explains) h = none size h.0
 untabled found none (Sweep asked) h = h
 untabled found none (Certify size within faults) h = h
+untabled found none (Report words) h = h
 
 -- without a table there is no run
 pub no_run : (found : Text → Option Text) (o : Option Task) → ((t : TableSize) → ¬ IsPlayed found t) → IfNone o ((task : Task) → ¬ IsRun found task)
@@ -129,6 +145,7 @@ not_run check table name found is none Check h = h
 not_run check table name found is none (Run size showing folder explains) h = none (Run size showing folder explains) h.2
 not_run check table name found is none (Sweep asked) h = absurd (let e : codes "run" ≡ codes "sweep" = sym is ∙ h.1 in cc)
 not_run check table name found is none (Certify size within faults) h = absurd (let e : codes "run" ≡ codes "certify" = sym is ∙ h.1 in cc)
+not_run check table name found is none (Report words) h = absurd (let e : codes "run" ≡ codes "report" = sym is ∙ h.1 in cc)
 
 -- where `run` is named, nothing is chosen if no run is
 pub none_but_run : (check table : Option Text) (name : Text) (found : Text → Option Text) (o : Option Task) → name ≡ codes "run" → IfNone o ((task : Task) → ¬ IsRun found task)
@@ -143,6 +160,7 @@ not_certify check table name found is none Check h = h
 not_certify check table name found is none (Run size showing folder explains) h = absurd (let e : codes "certify" ≡ codes "run" = sym is ∙ h.1 in cc)
 not_certify check table name found is none (Sweep asked) h = absurd (let e : codes "certify" ≡ codes "sweep" = sym is ∙ h.1 in cc)
 not_certify check table name found is none (Certify size within faults) h = none (Certify size within faults) h.2
+not_certify check table name found is none (Report words) h = absurd (let e : codes "certify" ≡ codes "report" = sym is ∙ h.1 in cc)
 
 -- and so it is with `certify`
 pub none_but_certify : (check table : Option Text) (name : Text) (found : Text → Option Text) (o : Option Task) → name ≡ codes "certify" → IfNone o ((task : Task) → ¬ IsCertify found task)

@@ -7,12 +7,13 @@ use Rattle.hsr_table_size.specs.declared.size.TableSize.{TableSize}
 use Rattle.hsr_table_size.specs.declared.size.TableSize.TheVariants.{Large}
 use Rattle.hsr_cli.specs.declared.plan_words.TheConstants.{TOGETHER}
 use Rattle.hsr_cli.specs.declared.task.Task.{Task}
-use Rattle.hsr_cli.specs.declared.task.Task.TheVariants.{Plan, Check, Run, Sweep, Certify}
+use Rattle.hsr_cli.specs.declared.task.Task.TheVariants.{Plan, Check, Run, Sweep, Certify, Report}
 use Rattle.hsr_cli.specs.declared.task.Faults.{Faults}
 use Rattle.hsr_cli.specs.declared.task.Faults.TheVariants.{None as NoFaults, One, Two}
 use Rattle.hsr_cli.specs.Flags.{IsGiven, IsSet, Listed, flag_rule, word_rule}
 use Rattle.hsr_cli.specs.Playing.{IsShowing, IsTable as IsPlayed, ListsTables, playing_app}
 use Rattle.hsr_cli.specs.Sweeping.{IsSweep, sweep_app}
+use Rattle.hsr_cli.specs.Reporting.{IsReport, report_app}
 use Rattle.hsr_cli.specs.Within.{IsWithin}
 
 -- ---- the command line
@@ -32,7 +33,9 @@ abbrev pub alone_app : Listed → App
 alone_app tables = with_rule (with_rule top_app (table_rule tables)) (flag_rule (codes "check"))
 
 abbrev pub plan_app : Listed → App
-plan_app tables = with_subcommand (with_subcommand (with_subcommand (alone_app tables) (playing_app (codes "run") tables).top) sweep_app.top) (certify_app tables).top
+plan_app tables =
+    with_subcommand (with_subcommand (with_subcommand (with_subcommand (alone_app tables) (playing_app (codes "run") tables).top) sweep_app.top) (certify_app tables).top)
+    report_app.top
 
 -- ---- what is chosen
 
@@ -54,6 +57,7 @@ ChosenAlone check table Check = (check ≡ Some (codes "true")) × (table ≡ No
 ChosenAlone check table (Run size showing folder explains) = ⊥
 ChosenAlone check table (Sweep asked) = ⊥
 ChosenAlone check table (Certify size within faults) = ⊥
+ChosenAlone check table (Report words) = ⊥
 
 -- the values of `run` choose this task
 abbrev pub IsRun : (Text → Option Text) → Task → Type 0
@@ -63,6 +67,7 @@ IsRun found (Run size showing folder explains) =
     IsPlayed found size × IsShowing found showing × IsGiven found (codes "csv") folder × IsSet found (codes "explain") explains
 IsRun found (Sweep asked) = ⊥
 IsRun found (Certify size within faults) = ⊥
+IsRun found (Report words) = ⊥
 
 -- the values of `certify` choose this task
 abbrev pub IsCertify : (Text → Option Text) → Task → Type 0
@@ -72,18 +77,20 @@ IsCertify found (Run size showing folder explains) = ⊥
 IsCertify found (Sweep asked) = ⊥
 IsCertify found (Certify size within faults) =
     IsTable (found (codes "table")) size × IsWithin (found (codes "within")) within × IsFaults (found (codes "sweep")) (found (codes "pairs")) faults
+IsCertify found (Report words) = ⊥
 
 -- neither a check is asked for nor a size is named
 abbrev pub IsBare : Option Text → Option Text → Type 0
 IsBare check table = (check ≡ Some (codes "false")) × (table ≡ None)
 
--- and before a subcommand of that name, with its values: a run, a sweep or a verdict, where nothing is said before it
+-- and before a subcommand of that name, with its values: a run, a sweep, a verdict or a page, where nothing is said before it
 abbrev pub ChosenBefore : Option Text → Option Text → Text → (Text → Option Text) → Task → Type 0
 ChosenBefore check table name found (Plan size) = ⊥
 ChosenBefore check table name found Check = ⊥
 ChosenBefore check table name found (Run size showing folder explains) = IsBare check table × (name ≡ codes "run") × IsRun found (Run size showing folder explains)
 ChosenBefore check table name found (Sweep asked) = IsBare check table × (name ≡ codes "sweep") × IsSweep found asked
 ChosenBefore check table name found (Certify size within faults) = IsBare check table × (name ≡ codes "certify") × IsCertify found (Certify size within faults)
+ChosenBefore check table name found (Report words) = IsBare check table × (name ≡ codes "report") × IsReport found words
 
 -- what is chosen by the values that stand before a subcommand, and by its name and its values, if there is one
 abbrev pub Chosen : (Text → Option Text) → Option (Text × (Text → Option Text)) → Task → Type 0

@@ -18,7 +18,8 @@ abbrev pub with_limits : App → App
 with_limits app = with_rule (with_rule app (word_rule (codes "limit-load"))) (word_rule (codes "limit-latency"))
 
 abbrev pub sweep_app : App
-sweep_app = with_limits (with_rule (with_rule (with_rule (new_app (codes "sweep")) at_rule) (flag_rule (codes "pairs"))) (word_rule (codes "part")))
+sweep_app =
+    with_limits (with_rule (with_rule (with_rule (with_rule (new_app (codes "sweep")) at_rule) (flag_rule (codes "without-events"))) (flag_rule (codes "pairs"))) (word_rule (codes "part")))
 
 -- ---- what is chosen
 
@@ -43,5 +44,5 @@ IsPart (Some word) (Some part) =
 
 -- a sweep is what the values of its options choose
 abbrev pub IsSweep : (Text → Option Text) → SweepWords → Type 0
-IsSweep found asked = IsMoment (found (codes "at-us")) asked.at × IsSet found (codes "pairs") asked.pairs × IsPart (found (codes "part")) asked.part
-    × IsLimit (found (codes "limit-load")) asked.limit_load × IsLimit (found (codes "limit-latency")) asked.limit_latency
+IsSweep found asked = IsMoment (found (codes "at-us")) asked.at × IsSet found (codes "without-events") asked.without_events × IsSet found (codes "pairs") asked.pairs
+    × IsPart (found (codes "part")) asked.part × IsLimit (found (codes "limit-load")) asked.limit_load × IsLimit (found (codes "limit-latency")) asked.limit_latency

@@ -10,6 +10,7 @@
 //! - `task`: what arguments of hsr_plan choose
 //! - `plan_help`: the help of hsr_plan
 //! - `sweeping`: the options of `sweep`, and what they choose
+//! - `reporting`: the options of `report`, and what they choose
 //! - `plan_words`: reads the arguments of hsr_plan
 #![tactic(auto)]
 
@@ -20,6 +21,7 @@ mod flags;
 mod plan_help;
 mod plan_words;
 mod playing;
+mod reporting;
 mod sweeping;
 mod task;
 mod within;
@@ -27,4 +29,4 @@ mod within;
 pub use bench_words::options;
 pub use fault::{OptionFault, turn_away, usage};
 pub use plan_words::task_by;
-pub use task::{Faults, Part, SweepWords, Task};
+pub use task::{Faults, Part, ReportWords, SweepWords, Task};

@@ -24,8 +24,8 @@ With run the plan is run, and its report written, as hsr_bench run writes it of 
 With sweep each link and each node is off from a moment on, one by one, and a line says of each run how many sends it
 had, how many of these are complete, missed by who needs them and is on, and taken up twice, how many table entries and which budget it
 needed, the longest that a frame took, the most that a link carried, and the first doubt, by names; then come the undisturbed
-run, the single points of failure, and what is enough for all. With --pairs each two are off at once too; --part K/N runs each N-th
-of these cases, from the K-th on. A terminal is told how far it is.
+run, the single points of failure, and what is enough for all. --without-events leaves the plan's own events out. With --pairs
+each two are off at once too; --part K/N runs each N-th of these cases, from the K-th on. A terminal is told how far it is.
 
 With certify nothing is played: a line says whether, in whatever order copies move, each frame comes exactly once to each
 node that it is for (`certified <sends> in any order`), or of what of the plan that is doubted, by names and with its
@@ -33,16 +33,23 @@ line (`doubt cut-off mu1@29250us/sv1 bcu1 line 14`; hsr_bench certify --help has
 orders in which each copy ends less than US microseconds after its send. With --sweep it is also said for each link and each node
 off from the start, and with --pairs for each two of them too: who is then cut off from whom in some order.
 
+With report a page of HTML is written that stands alone and prints on A4: the verdict in any order and that of the run, the
+network as it is wired, streams with their receivers, load and latency, each link and each node off one by one with who misses
+what, the table needed and the budget, and the sum of the plan's text. Its numbers are those of run, sweep and certify: --at-us
+and limits are as with sweep, and --within as with certify. --date TEXT stands on the page as it is.
+
 docs/GUIDE.md goes from a first plan to the size of a table; docs/REFERENCE.md has each key and fault.
 
-Status 0: the scenario was written, or is right, or the plan or its run is certified, or all of a sweep is complete with each single
-link and node off, and within --limit-load and --limit-latency. Status 1: there is none, or it isn't, and one line on standard
-error says why, with line and column of the word. Status 2: the plan or its run is doubted, or something of a sweep isn't complete,
-or is over a limit. Status 3: the arguments are refused.
+Status 0: the scenario was written, or is right, or the plan or its run is certified, or all of a sweep is complete with each
+single link and node off, and within --limit-load and --limit-latency, or a page was written that tells no doubt. Status 1:
+there is none, or it isn't, and one line on standard error says why, with line and column of the word. Status 2: the plan or its
+run is doubted, or something of a sweep isn't complete, or is over a limit, or the page tells a doubt. Status 3: the arguments
+are refused.
 
 Example: hsr_plan < plan.toml > plan.scenario && hsr_bench run --budget < plan.scenario
          hsr_plan sweep --at-us 5000 < plan.toml
-         hsr_plan certify --within 1000 < plan.toml";
+         hsr_plan certify --within 1000 < plan.toml
+         hsr_plan report --date 2026-11-28 < plan.toml > plan.html";
 
 /// How help tells of the sizes of tables of a run.
 pub(crate) const TABLE_HELP: &str =

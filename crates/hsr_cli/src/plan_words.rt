@@ -17,6 +17,7 @@ use crate::flags::{flag_arg, flag_of, word_arg};
 use crate::plan_help::{ANY_TABLE_HELP, ENDS, RUN_ABOUT, RUN_ENDS, TABLE_HELP};
 use crate::playing;
 use crate::playing::{playing_command, showing_of, tables};
+use crate::reporting::{report_command, report_of};
 use crate::sweeping::{sweep_command, sweep_of};
 use crate::task::{Faults, Task};
 use crate::within::within_of;
@@ -31,8 +32,9 @@ const TOGETHER: &str = "\
 usage: hsr_plan [--table small|large|ENTRIES]
        hsr_plan --check
        hsr_plan run [OPTIONS], as hsr_plan run --help has them
-       hsr_plan sweep [--at-us N] [--pairs] [--part K/N] [--limit-load KBIT] [--limit-latency US], K from 1 to N, others up to 1099511627776
-       hsr_plan certify [--table small|large|ENTRIES] [--within US] [--sweep | --pairs], US from 1 to 400000";
+       hsr_plan sweep [--at-us N] [--without-events] [--pairs] [--part K/N] [--limit-load KBIT] [--limit-latency US], K from 1 to N, others up to 1099511627776
+       hsr_plan certify [--table small|large|ENTRIES] [--within US] [--sweep | --pairs], US from 1 to 400000
+       hsr_plan report [--date TEXT] [--at-us N] [--within US] [--limit-load KBIT] [--limit-latency US], US of --within from 1 to 400000, others up to 1099511627776";
 
 fn table_arg<'a>(alloc: Global, help: &'a str, tables: &'a [&'a str]) -> Arg<'a>
     ensures rule { rule_of result ≡ table_rule tables.entry }
@@ -108,11 +110,13 @@ fn plan_command<'a>(alloc: Global, tables: &'a [&'a str]) -> Result<Command<'a>,
     let run = playing_command(alloc, "run", RUN_ABOUT, RUN_ENDS, tables)?;
     let sweep = sweep_command(alloc)?;
     let certify = certify_command(alloc, tables)?;
+    let report = report_command(alloc)?;
     let alone = alone_command(alloc, tables)?;
     let one = alone.subcommand(run)?;
     let two = one.subcommand(sweep)?;
     let three = two.subcommand(certify)?;
-    Ok(three)
+    let four = three.subcommand(report)?;
+    Ok(four)
 }
 
 /// The tables that the values name: large, where they don't say.
@@ -215,6 +219,7 @@ fn task_before<'a>(
         (Some("false"), None, "run") => run_of(inner),
         (Some("false"), None, "sweep") => Some(Task::Sweep(sweep_of(inner)?)),
         (Some("false"), None, "certify") => certify_of(inner),
+        (Some("false"), None, "report") => Some(Task::Report(report_of(inner)?)),
         _ => None,
     }
 }
@@ -235,10 +240,10 @@ fn chosen_in<'a>(matches: &ArgMatches<'a>) -> Option<Task<'a>>
 }
 
 /// What arguments choose: `--check` a scenario to check, `run` a plan to be run, with the options of `hsr_bench threads`, `sweep`
-/// with `--at-us`, `--pairs`, `--part` and limits a sweep, `certify` with `--table`, `--within` and `--sweep` or `--pairs` a verdict, else a
-/// plan, with the tables that `--table` names (`large` is meant without it). Arguments that go together in none of these are
-/// refused by the text that says which do, and other arguments by clap's text, which isn't empty; `Memory` if allocation
-/// fails.
+/// with `--at-us`, `--pairs`, `--part` and limits a sweep, `certify` with `--table`, `--within` and `--sweep` or `--pairs` a verdict, `report`
+/// with `--date`, `--at-us`, `--within` and limits a page, else a plan, with the tables that `--table` names (`large` is meant without
+/// it). Arguments that go together in none of these are refused by the text that says which do, and other arguments by clap's
+/// text, which isn't empty; `Memory` if allocation fails.
 pub fn task_by<'a>(alloc: Global, words: &'a [&'a str]) -> Result<Task<'a>, OptionFault>
     ensures found { IfOk result (Says (map (λ s. s.now) words.entry.now)) }
     ensures refused { IfErr result (λ f. IfUsage f (IsRefused (map (λ s. s.now) words.entry.now))) }

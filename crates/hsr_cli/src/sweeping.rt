@@ -21,7 +21,7 @@ const LAST: u64 = 1 << 40;
 
 // ---- the command line
 
-fn at_arg<'a>(alloc: Global) -> Arg<'a>
+pub(crate) fn at_arg<'a>(alloc: Global) -> Arg<'a>
     ensures rule { rule_of result ≡ at_rule }
     ensures own { result.global ≡ false }
 {
@@ -32,7 +32,7 @@ fn at_arg<'a>(alloc: Global) -> Arg<'a>
 }
 
 /// A command, with the options for the limits of a sweep.
-fn limiting<'a>(alloc: Global, command: Command<'a>) -> Result<Command<'a>, NoMemory>
+pub(crate) fn limiting<'a>(alloc: Global, command: Command<'a>) -> Result<Command<'a>, NoMemory>
     requires own { (fields_of command).has_globals ≡ false }
     ensures app { IfOk result (λ c. app_of c ≡ with_limits (app_of command.entry)) }
     ensures own { IfOk result (λ c. (fields_of c).has_globals ≡ false) }
@@ -58,17 +58,19 @@ pub(crate) fn sweep_command<'a>(alloc: Global) -> Result<Command<'a>, NoMemory>
     ensures app { IfOk result (λ c. app_of c ≡ sweep_app) }
     ensures own { IfOk result (λ c. (fields_of c).has_globals ≡ false) }
 {
+    let without = "Leaves the plan's own events out";
     let pairs = "Has each two of them off at once too";
     let part = "Runs each N-th case alone, from the K-th on";
-    let one = with_flag(alloc, sweep_from(alloc)?, "pairs", pairs)?;
-    let two = with_word(alloc, one, "part", "K/N", part)?;
-    limiting(alloc, two)
+    let one = with_flag(alloc, sweep_from(alloc)?, "without-events", without)?;
+    let two = with_flag(alloc, one, "pairs", pairs)?;
+    let three = with_word(alloc, two, "part", "K/N", part)?;
+    limiting(alloc, three)
 }
 
 // ---- what is chosen
 
 /// The moment that a word spells.
-fn moment_of(said: Option<&str>) -> Option<u64>
+pub(crate) fn moment_of(said: Option<&str>) -> Option<u64>
     ensures found { IfSome result (IsMoment (option_map (λ s. s.now) said.entry)) }
     ensures none { IfNone result ((at : _) → ¬ IsMoment (option_map (λ s. s.now) said.entry) at) }
 {
@@ -79,7 +81,7 @@ fn moment_of(said: Option<&str>) -> Option<u64>
 }
 
 /// The limit that a word names: none where there is no word. `None` where the word is no number up to 2^40.
-fn limit_of(said: Option<&str>) -> Option<Option<u64>>
+pub(crate) fn limit_of(said: Option<&str>) -> Option<Option<u64>>
     ensures found { IfSome result (IsLimit (option_map (λ s. s.now) said.entry)) }
     ensures none { IfNone result ((limit : _)
         → ¬ IsLimit (option_map (λ s. s.now) said.entry) limit) }
@@ -129,12 +131,14 @@ pub(crate) fn sweep_of(matches: &ArgMatches<'_>) -> Option<SweepWords>
         → ¬ IsSweep (first_value (found_of matches.now)) asked) }
 {
     let at = moment_of(matches.get_str("at-us"))?;
+    let without_events = flag_of(matches, "without-events")?;
     let pairs = flag_of(matches, "pairs")?;
     let part = part_of(matches.get_str("part"))?;
     let limit_load = limit_of(matches.get_str("limit-load"))?;
     let limit_latency = limit_of(matches.get_str("limit-latency"))?;
     Some(SweepWords {
         at,
+        without_events,
         pairs,
         part,
         limit_load,

@@ -25,10 +25,27 @@ pub struct Part {
 pub struct SweepWords {
     /// From which moment on links and nodes are off, in microseconds.
     pub at: u64,
+    /// Whether the plan's own events are left out.
+    pub without_events: bool,
     /// Whether each two of them are off at once too.
     pub pairs: bool,
     /// Which part of the cases is swept; all of them, where it isn't said.
     pub part: Option<Part>,
+    /// The most that a direction of a link may carry in its worst millisecond, in kbit/s.
+    pub limit_load: Option<u64>,
+    /// The longest that a frame may take to a receiver, in microseconds.
+    pub limit_latency: Option<u64>,
+}
+
+/// What a page about a plan is asked for.
+#[derive(Clone, Copy, Debug, PartialEq, Eq)]
+pub struct ReportWords<'a> {
+    /// What stands on the page as its date, as it was handed in; none, where it isn't said.
+    pub date: Option<&'a str>,
+    /// From which moment on links and nodes are off in the sweep, in microseconds.
+    pub at: u64,
+    /// How long after its send a copy may be under way, in microseconds, from 1 to 400000; to the next drain, where it isn't said.
+    pub within: Option<u64>,
     /// The most that a direction of a link may carry in its worst millisecond, in kbit/s.
     pub limit_load: Option<u64>,
     /// The longest that a frame may take to a receiver, in microseconds.
@@ -63,4 +80,6 @@ pub enum Task<'a> {
         /// Which faults it is said of.
         faults: Faults,
     },
+    /// A page of HTML about a plan is written.
+    Report(ReportWords<'a>),
 }

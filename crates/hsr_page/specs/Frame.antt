@@ -8,6 +8,7 @@ use Rattle.base64.specs.GeneralPurpose.{encode_of}
 use Rattle.sha2.specs.Sha256.{sha256}
 use Rattle.hsr_page.specs.declared.frame.Kind.{Kind}
 use Rattle.hsr_page.specs.declared.frame.Kind.TheVariants.{Run, Plan}
+use Rattle.hsr_page.specs.declared.plan_script.TheConstants.{PLAN_SCRIPT}
 use Rattle.hsr_page.specs.declared.script.TheConstants.{SCRIPT}
 use Rattle.hsr_page.specs.declared.style.TheConstants.{STYLE}
 use Rattle.hsr_page.specs.Hidden.{seen}
@@ -75,5 +76,10 @@ end_text script = codes "<script>" ++ script ++ codes "</script>\n</body>\n</htm
 unfoldable pub page_text : List ℕ → List ℕ → Parts → List ℕ
 page_text script sheet parts = head_text script (style_text sheet parts.foot) parts.title ++ content_text parts.kind parts.body parts.json ++ end_text script
 
+-- the script of what a page is of
+abbrev pub script_of : Kind → List ℕ
+script_of Run = SCRIPT.now
+script_of Plan = PLAN_SCRIPT.now
+
 unfoldable pub whole_text : Parts → List ℕ
-whole_text parts = page_text SCRIPT.now STYLE.now parts
+whole_text parts = page_text (script_of parts.kind) STYLE.now parts

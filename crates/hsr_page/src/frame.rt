@@ -3,10 +3,11 @@ ghost use Rattle.std.specs.Prelude.{◌≡◌, ◌++◌, Option, IfOk, OnOk, cha
 ghost use Rattle.base64.specs.Engines.{standard};
 ghost use Rattle.base64.specs.GeneralPurpose.{encode_of};
 ghost use Rattle.sha2.specs.Sha256.{sha256};
-ghost use Rattle.hsr_page.specs.Frame.{content_text, data_begin, end_text, foot_text, head_text, kind_word, metas_text, opening_text, page_text, policy_text, source_text, style_element, style_text, whole_text};
+ghost use Rattle.hsr_page.specs.Frame.{content_text, data_begin, end_text, foot_text, head_text, kind_word, metas_text, opening_text, page_text, policy_text, script_of, source_text, style_element, style_text, whole_text};
 ghost use Rattle.hsr_page.specs.Hidden.{seen};
 ghost use Rattle.hsr_page.specs.Spelling.{style_string};
 
+use crate::plan_script::PLAN_SCRIPT;
 use crate::script::SCRIPT;
 use crate::spelling::{put_escaped, put_style_text};
 use crate::style::STYLE;
@@ -272,6 +273,16 @@ fn put_page_with(
     put_end(text, script.as_bytes())
 }
 
+/// The script of what a page is of.
+fn script_of(kind: Kind) -> &'static str
+    ensures { result.now ≡ script_of kind }
+{
+    match kind {
+        Kind::Run => SCRIPT,
+        Kind::Plan => PLAN_SCRIPT,
+    }
+}
+
 /// Puts a whole page last: one text of HTML that stands alone. Its policy (Content Security Policy Level 3) names the sums of its script
 /// and its style (SHA-256, in base 64), so that a browser loads nothing for it and runs nothing else that stands in it. The title and the
 /// foot of each sheet are spelled so that they read as they are; the body and the data stand as they were handed in. `NoMemory` if
@@ -281,5 +292,5 @@ pub fn put_page(alloc: Global, text: &mut Vec<u8>, page: &Page<'_>) -> Result<()
     ensures { OnOk result (text.new.items ≡ text.old.items
         ++ whole_text page.now) }
 {
-    put_page_with(alloc, text, SCRIPT, STYLE, page)
+    put_page_with(alloc, text, script_of(page.kind), STYLE, page)
 }

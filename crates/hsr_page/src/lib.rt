@@ -5,7 +5,7 @@
 //! - `spelling`: texts as the syntaxes of a page spell them
 //! - `numbers`: numbers and moments as they are read best
 //! - `lists`: numbers in the data of a page, as JSON
-//! - `script`, `style`: the script and the style of a page
+//! - `script`, `plan_script`, `style`: the scripts and the style of pages
 //! - `frame`: the whole of a page
 //! - `law`: what is read of texts that were spelled
 #![tactic(auto)]
@@ -15,6 +15,7 @@ mod hidden;
 mod law;
 mod lists;
 mod numbers;
+mod plan_script;
 mod script;
 mod spelling;
 mod style;

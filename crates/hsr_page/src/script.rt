@@ -478,7 +478,8 @@ pub(crate) const SCRIPT: &str = r#"'use strict';
     /** One picture of the play: copies move between steps, the rest changes with them. */
     function frame(time) {
       if (!state.isPlaying) return;
-      state.t += Math.min(time - state.before, 100) / 700 * Number(byId('speed').value);
+      // a picture's moment may be one from before the key was pressed, and a hidden page's next one is far away
+      state.t += Math.max(0, Math.min(time - state.before, 100)) / 700 * Number(byId('speed').value);
       state.before = time;
       if (state.t >= state.end + 0.5) { pause(); go(state.end); return; }
       const mark = Math.floor(state.t);

@@ -280,7 +280,8 @@ header,main,footer,.plan header,.plan main,.plan footer{padding:0;max-width:none
 .nets{overflow:visible;max-height:none}
 .scroll{max-height:none;overflow:visible;border:0}
 .scroll thead th{position:static}
-svg.wide,svg.wide:has(+ svg.tall){display:block;max-height:90mm}
+svg.wide,svg.wide:has(+ svg.tall){display:block}
+svg.wide{max-height:90mm}
 svg.tall{display:none}
 svg.net.zoomed{max-width:100%}
 #now{min-height:0;max-height:none}

@@ -8,9 +8,10 @@ use Rattle.hsr_cli.specs.Choices.{IsRefused, Says}
 use Rattle.hsr_cli.specs.declared.task.Faults.{Faults}
 use Rattle.hsr_cli.specs.declared.task.Faults.TheVariants as fault
 use Rattle.hsr_cli.specs.declared.task.Part.{Part as PartWords}
+use Rattle.hsr_cli.specs.declared.task.ReportWords.{ReportWords}
 use Rattle.hsr_cli.specs.declared.task.SweepWords.{SweepWords}
 use Rattle.hsr_cli.specs.declared.task.Task.{Task}
-use Rattle.hsr_cli.specs.declared.task.Task.TheVariants.{Plan, Check, Run, Sweep, Certify}
+use Rattle.hsr_cli.specs.declared.task.Task.TheVariants.{Plan, Check, Run, Sweep, Certify, Report}
 use Rattle.hsr_cli.specs.Refusal.{IsTurnedAway, TurnsAway}
 use Rattle.hsr_cli.specs.declared.fault.OptionFault.{OptionFault}
 use Rattle.hsr_commands.specs.Shown.{KeepsAll, Outputs}
@@ -18,6 +19,8 @@ use Rattle.hsr_plan_scenario.specs.Ends.{Checks, Ends, code_of}
 use Rattle.hsr_plan_scenario.specs.declared.planning.Ending.{Ending}
 use Rattle.hsr_plan_scenario.specs.declared.planning.Ending.TheVariants.{Planned, Doubted, Refused, Failed, Unwritten}
 use Rattle.hsr_plan_run.specs.Ends.{RunEnds}
+use Rattle.hsr_plan_report.specs.Report.{ReportEnds}
+use Rattle.hsr_plan_report.specs.declared.asked.Asked.{Asked as ReportAsked}
 use Rattle.hsr_plan_sweep.specs.Swept.{SweepEnds}
 use Rattle.hsr_plan_sweep.specs.declared.asked.Asked.{Asked}
 use Rattle.hsr_plan_sweep.specs.declared.asked.Part.{Part}
@@ -40,14 +43,18 @@ abbrev pub part_of : PartWords → Part
 part_of words = record { number = words.number; of = words.of }
 
 abbrev pub asked_of : SweepWords → Asked
-asked_of words = record { at = words.at; pairs = words.pairs; part = option_map part_of words.part; limit_load = words.limit_load; limit_latency = words.limit_latency }
+asked_of words = record { at = words.at; without_events = words.without_events; pairs = words.pairs; part = option_map part_of words.part; limit_load = words.limit_load; limit_latency = words.limit_latency }
+
+-- what a page is asked for by these words
+abbrev pub report_asked : ReportWords → ReportAsked
+report_asked words = record { date = words.date; at = words.at; within = words.within; limit_load = words.limit_load; limit_latency = words.limit_latency }
 
 -- what is said of the writers alone, while no file is put
 abbrev pub Writes : (Option (List ℕ) → Option (List ℕ) → Type 0) → Outputs → Outputs → Type 0
 Writes writes before after = writes before.written after.written × Puts before.put after.put []
 
 -- a text is handled as was chosen: as a plan, for tables of some size; as a scenario, and nothing is written; or as a plan that is run, that
--- is swept, or on which a verdict is asked for
+-- is swept, on which a verdict is asked for, or whose page is
 abbrev pub Does : Task → List ℕ → Bool → Outputs → Outputs → Option (List ℕ) → Option (List ℕ) → Ending → Type 0
 Does (Plan table) text shown before after told tells ending = Writes (λ held holds. Ends (capacity_of table) text held holds told tells ending) before after
 Does Check text shown before after told tells ending = Writes (λ held holds. Checks text told tells ending × Keeps held holds) before after
@@ -56,6 +63,8 @@ Does (Run table showing folder explains) text shown before after told tells endi
 Does (Sweep words) text shown before after told tells ending = Writes (λ held holds. SweepEnds text (asked_of words) shown held holds told tells ending) before after
 Does (Certify table within faults) text shown before after told tells ending =
     Writes (λ held holds. CertifyEnds (capacity_of table) (question_of within faults) text held holds told tells ending) before after
+Does (Report words) text shown before after told tells ending =
+    Writes (λ held holds. ReportEnds text (report_asked words) shown held holds told tells ending) before after
 
 -- of a failed write a line is told, of another end no more than was
 abbrev pub TellsWrite : Ending → Option (List ℕ) → Option (List ℕ) → Type 0

@@ -4,13 +4,17 @@ ghost use Rattle.hsr_table_size.specs.Sizes.{capacity_of};
 ghost use Rattle.hsr_commands.specs.Shown.{outputs};
 ghost use Rattle.hsr_plan_scenario.specs.Ends.{Ends, code_of};
 ghost use Rattle.hsr_plan_run.specs.Ends.{RunEnds};
+ghost use Rattle.hsr_plan_report.specs.Report.{ReportEnds};
 ghost use Rattle.hsr_plan_sweep.specs.Swept.{SweepEnds};
-ghost use Rattle.hsr_plan.specs.Planning.{Answers, Does, IsDone, Plans, TellsWrite, asked_of, part_of, question_of};
+ghost use Rattle.hsr_plan.specs.Planning.{Answers, Does, IsDone, Plans, TellsWrite, asked_of, part_of, question_of, report_asked};
 
-use hsr_cli::{Faults, OptionFault, Part as PartWords, SweepWords, Task, task_by, turn_away};
+use hsr_cli::{
+    Faults, OptionFault, Part as PartWords, ReportWords, SweepWords, Task, task_by, turn_away,
+};
 use hsr_files::Disk;
 use hsr_plan_certify::{Question, certify_plan_run};
 use hsr_plan_outages::AtOnce;
+use hsr_plan_report::{Asked as ReportAsked, report_run};
 use hsr_plan_run::{Question as RunQuestion, Showing, plan_report_run};
 use hsr_plan_scenario::{Ending, check_run, plan_run};
 use hsr_plan_sweep::{Asked, Part, sweep_run};
@@ -55,6 +59,7 @@ fn asked_of(words: SweepWords) -> Asked
     };
     Asked {
         at: words.at,
+        without_events: words.without_events,
         pairs: words.pairs,
         part,
         limit_load: words.limit_load,
@@ -117,7 +122,38 @@ fn swept<H: Threads + Sync, R: Read, W: Write, E: Write>(
     sweep_run(rt, alloc, reader, writer, errors, asked_of(words), is_shown)
 }
 
-/// Does what was chosen. Only a sweep on a terminal shows how far it is.
+/// What a page is asked for by these words.
+fn report_asked<'a>(words: ReportWords<'a>) -> ReportAsked<'a>
+    ensures { result ≡ report_asked words.entry }
+{
+    ReportAsked {
+        date: words.date,
+        at: words.at,
+        within: words.within,
+        limit_load: words.limit_load,
+        limit_latency: words.limit_latency,
+    }
+}
+
+/// Writes the page of a plan.
+fn reported<H: Threads + Sync, R: Read, W: Write, E: Write>(
+    rt: &H,
+    alloc: Global,
+    words: ReportWords<'_>,
+    is_shown: bool,
+    reader: &mut R,
+    writer: &mut W,
+    errors: &mut E,
+) -> io::Result<Ending>
+    ensures { IfOk result (λ ending. IfSome (R.remaining reader.old) (λ text.
+        ReportEnds text (report_asked words.entry) is_shown (W.contents writer.old) (W.contents writer.new)
+        (E.contents errors.old) (E.contents errors.new) ending)) }
+{
+    let asked = report_asked(words);
+    report_run(rt, alloc, reader, writer, errors, asked, is_shown)
+}
+
+/// Does what was chosen. Only a sweep and a page on a terminal show how far they are.
 #[tactic(auto, using(hsr_files::proofs::Puts::none_put))]
 fn perform<H: Threads + Sync, R: Read, W: Write, D: Disk, E: Write>(
     rt: &H,
@@ -158,6 +194,7 @@ fn perform<H: Threads + Sync, R: Read, W: Write, D: Disk, E: Write>(
             table,
             question_of(within, faults),
         ),
+        Task::Report(words) => reported(rt, alloc, words, is_terminal, reader, writer, errors),
     }
 }
 
@@ -217,7 +254,7 @@ fn answer<H: Threads + Sync, R: Read, W: Write, D: Disk, E: Write>(
 
 /// Does what the arguments after the program's name choose, over a text that is read, files, standard output and standard
 /// error, and gives the status of the process: 0 where the scenario was written, a scenario is right, a plan's run is
-/// certified, all of a sweep is complete, or a plan is certified; 1 after a fault, whose lines are then on standard error, and
+/// certified, all of a sweep is complete, a plan is certified, or a page that tells no doubt was written; 1 after a fault, whose lines are then on standard error, and
 /// nothing was written; 2 where a doubt was written; 3 where the arguments are refused, by a text on standard error. The
 /// error of `errors`, where a line can't be written there.
 pub fn plan<'a, H: Threads + Sync, R: Read, W: Write, D: Disk, E: Write>(

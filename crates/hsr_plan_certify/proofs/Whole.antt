@@ -14,7 +14,7 @@ use Rattle.hsr_certify_text.specs.declared.verdict.Verdict.TheVariants.{Certifie
 use Rattle.hsr_certify_text.specs.Found.{IsFound}
 use Rattle.hsr_plan_schedule.specs.Meaning.{Meaning}
 use Rattle.hsr_plan_certify.specs.declared.question.Question.{Question}
-use Rattle.hsr_plan_certify.specs.Verdicts.{IsToldOf, IsUncertified, TellsFaults, TellsVerdict, coarsened, ending_of, setup_for}
+use Rattle.hsr_plan_certify.specs.Verdicts.{IsCertification, IsToldOf, IsUncertified, TellsFaults, TellsVerdict, coarsened, ending_of, setup_for}
 use Rattle.hsr_plan_certify.specs.Ends.{CertifyEnds, IsToldIn, IsUncertifiable, IsUncertifiedIf, WritesVerdict}
 
 -- a text over 16 MiB is no plan
@@ -50,6 +50,13 @@ told_so capacity question text meant m verdict line words end same found tells f
     let Q : Meaning → Type 0 = λ v. TellsVerdict text v verdict line in
     let R : Meaning → Type 0 = λ v. TellsFaults question v verdict line words in
     record { verdict = verdict; found = subst P same found; line = line; tells = subst Q same tells; faults = subst R same faults; ends = ends }
+
+pub certified_so : (capacity : ℕ) (within : Option ℕ) (text : List ℕ) (meant m : Meaning) (verdict : Verdict) (line : List ℕ) → m ≡ coarsened meant
+    → IsFound (setup_for capacity within m) verdict → TellsVerdict text m verdict line → IsCertification capacity within text meant verdict line
+certified_so capacity within text meant m verdict line same found tells =
+    let P : Meaning → Type 0 = λ v. IsFound (setup_for capacity within v) verdict in
+    let Q : Meaning → Type 0 = λ v. TellsVerdict text v verdict line in
+    record { found = subst P same found; tells = subst Q same tells }
 
 -- ---- what is written
 

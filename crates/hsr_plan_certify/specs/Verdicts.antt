@@ -60,6 +60,11 @@ abbrev pub ending_of : Verdict → Ending
 ending_of (Certified certified) = ending.Planned
 ending_of (Doubted doubt) = ending.Doubted
 
+-- the verdict on what is meant, and its line
+pub record IsCertification (capacity : ℕ) (within : Option ℕ) (text : List ℕ) (meant : Meaning) (verdict : Verdict) (line : List ℕ) : Type 0 where
+  pub found : IsFound (setup_for capacity within (coarsened meant)) verdict
+  pub tells : TellsVerdict text (coarsened meant) verdict line
+
 -- the setup of what is meant, for what each fault cuts off
 abbrev pub swept_for : Option ℕ → Meaning → Swept
 swept_for within m = record { net = bare m.topology.places m.topology.links; orders = m.orders; within = within }

@@ -24,3 +24,4 @@ mod words;
 pub use certifying::certify_plan_run;
 pub use law::orders_come_from_occasions;
 pub use question::Question;
+pub use verdict::{Certification, certification_of};

@@ -4,7 +4,7 @@ ghost use Rattle.hsr_certify_text.specs.Found.{IsFound};
 ghost use Rattle.hsr_table_size.specs.Sizes.{capacity_of};
 ghost use Rattle.hsr_plan_hops.specs.Moving.{MeansMoved};
 ghost use Rattle.hsr_plan_certify.specs.Lines.{IsLineOf};
-ghost use Rattle.hsr_plan_certify.specs.Verdicts.{IsTold, IsToldOf, IsUncertified, TellsFaults, TellsVerdict, coarsened, ending_of, part_in, setup_for};
+ghost use Rattle.hsr_plan_certify.specs.Verdicts.{IsCertification, IsTold, IsToldOf, IsUncertified, TellsFaults, TellsVerdict, coarsened, ending_of, part_in, setup_for};
 ghost use Rattle.hsr_plan_scenario.specs.Refusals.{IsUnmoved};
 
 use crate::part::part_of;
@@ -93,6 +93,46 @@ fn verdict_on(
     )
 }
 
+/// The verdict on a plan, and its line with a line feed, as `hsr_plan certify` prints it.
+#[derive(Debug, Drop)]
+pub struct Certification {
+    pub verdict: Verdict,
+    pub line: Vec<u8>,
+}
+
+/// The verdict on what is certified of a plan, with tables of this size, and its line.
+fn certification_on(
+    alloc: Global,
+    table: TableSize,
+    text: &str,
+    meaning: &Meaning,
+    within: Option<u64>,
+) -> Result<Certification, NoMemory>
+    ensures found { IfOk result (λ c. IsFound (setup_for (capacity_of table) within meaning.now) c.verdict) }
+    ensures line { IfOk result (λ c. TellsVerdict text.now meaning.now c.verdict c.line.items) }
+{
+    let verdict = verdict_on(alloc, table, meaning, within)?;
+    let line = words_of(alloc, text, meaning, verdict)?;
+    Ok(Certification { verdict, line })
+}
+
+/// The verdict on what a plan means, whatever the order in which its copies move, with tables of this size; the text is the plan's. Its moves
+/// of copies are left out, and a drain stands behind all. If it is said, only those orders are meant in which a copy is under way for less
+/// than `within` microseconds. `NoMemory` if allocation fails.
+pub fn certification_of(
+    alloc: Global,
+    table: TableSize,
+    text: &str,
+    meant: Meaning,
+    within: Option<u64>,
+) -> Result<Certification, NoMemory>
+    ensures { IfOk result (λ c. IsCertification (capacity_of table) within text.now meant c.verdict c.line.items) }
+{
+    let meaning = coarsened(meant)?;
+    let certification = certification_on(alloc, table, text, &meaning, within)?;
+    Ok(certification)
+}
+
 /// Puts what faults cut off of what is meant behind the line of a certificate, if that is asked for.
 fn put_faults(
     alloc: Global,
@@ -129,8 +169,9 @@ fn told_of_meaning(
         t.ending) }
 {
     let meaning = coarsened(meant)?;
-    let verdict = verdict_on(alloc, table, &meaning, question.within)?;
-    let mut words = words_of(alloc, text, &meaning, verdict)?;
+    let certification = certification_on(alloc, table, text, &meaning, question.within)?;
+    let verdict = certification.verdict;
+    let mut words = certification.line;
     put_faults(alloc, &mut words, &meaning, verdict, question)?;
     Ok(Told {
         text: words,

@@ -58,22 +58,22 @@ unfoldable pub limits_text : Words → Count → List ℕ
 limits_text w count = limited_text (codes " latency ") w.asked.limit_latency count.latency ++ limited_text (codes " load ") w.asked.limit_load count.load
 
 -- the first send that was missed, as a doubt
-abbrev pub first_text : Words → Option Miss → List ℕ
-first_text w None = codes "none missed\n"
-first_text w (Some miss) = finding_line w.naming (finding.Doubt (CutOff miss.send.node miss.send.place miss.node))
+abbrev pub first_text : Naming → Option Miss → List ℕ
+first_text naming None = codes "none missed\n"
+first_text naming (Some miss) = finding_line naming (finding.Doubt (CutOff miss.send.node miss.send.place miss.node))
 
 -- The audit of networks asks for nodes that are off too, and for those whom no stream is for. Where it finds that a send doesn't come to one
 -- of all these, the first is told that was missed by one that needs it.
-abbrev pub found_if : Words → Option Miss → Finding → List ℕ
-found_if w first (finding.Doubt (CutOff k place receiver)) = first_text w first
-found_if w first found = finding_line w.naming found
+abbrev pub found_if : Naming → Option Miss → Finding → List ℕ
+found_if naming first (finding.Doubt (CutOff k place receiver)) = first_text naming first
+found_if naming first found = finding_line naming found
 
-abbrev pub found_text : Words → Count → List ℕ
-found_text w count = found_if w count.first count.finding
+abbrev pub found_text : Naming → Count → List ℕ
+found_text naming count = found_if naming count.first count.finding
 
 -- and what was found, in the words of a report
 unfoldable pub play_text : Words → Count → List ℕ
-play_text w count = sends_text count ++ tables_text w count ++ limits_text w count ++ codes " " ++ found_text w count
+play_text w count = sends_text count ++ tables_text w count ++ limits_text w count ++ codes " " ++ found_text w.naming count
 
 abbrev pub play_line : Words → Played → List ℕ
 play_line w played = case_text w played.case ++ play_text w played.count

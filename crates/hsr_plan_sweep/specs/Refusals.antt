@@ -5,7 +5,6 @@
 --     IsUnsweepable    octets are no plan, or one that isn't swept
 use Rattle.std.specs.Prelude.{ℕ, ◌≡◌, ◌⊎◌, nat_lt, Bool, true, false, ⊤, List, length, Contains, Option, Some, None, Result, Ok, Err}
 use Rattle.std.specs.Str.{IsUtf8}
-use Rattle.hsr_plan_text.specs.Meaning.{plan_of}
 use Rattle.hsr_plan_text.specs.Plan.{Plan}
 use Rattle.hsr_plan_text.specs.declared.fault.PlanFault.{PlanFault}
 use Rattle.hsr_plan_schedule.specs.Meaning.{Meaning, Means}
@@ -14,7 +13,7 @@ use Rattle.hsr_plan_scenario.specs.Refusals as plans
 use Rattle.hsr_plan_scenario.specs.Runs.{IsUnrunOf}
 use Rattle.hsr_plan_sweep.specs.Cases.{cases_of}
 use Rattle.hsr_plan_sweep.specs.Runs.{IfSays, IsPlayed}
-use Rattle.hsr_plan_sweep.specs.Variants.{Ground, varied}
+use Rattle.hsr_plan_sweep.specs.Variants.{Ground, plan_in, varied}
 use Rattle.hsr_plan_sweep.specs.declared.asked.Asked.{Asked}
 use Rattle.hsr_plan_sweep.specs.declared.cases.Case.{Case}
 use Rattle.hsr_plan_sweep.specs.declared.playing.Played.{Played}
@@ -72,4 +71,4 @@ IsUnsweptIf (Err fault) asked = ⊤
 
 -- octets are no text; or one that is no plan, or a plan that isn't swept
 abbrev pub IsUnsweepable : List ℕ → Asked → Type 0
-IsUnsweepable octets asked = (¬ IsUtf8 octets) ⊎ IsUnsweptIf (plan_of octets) asked
+IsUnsweepable octets asked = (¬ IsUtf8 octets) ⊎ IsUnsweptIf (plan_in asked.without_events octets) asked

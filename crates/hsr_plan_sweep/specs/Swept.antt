@@ -6,7 +6,6 @@ use Rattle.hsr_timeline.specs.Fronts.{lists_of}
 use Rattle.hsr_naming.specs.declared.names.Names.{Names}
 use Rattle.hsr_naming.specs.declared.naming.Naming.{Naming}
 use Rattle.hsr_naming.specs.declared.naming.Naming.TheVariants as naming
-use Rattle.hsr_plan_text.specs.Meaning.{plan_of}
 use Rattle.hsr_plan_text.specs.Plan.{Plan}
 use Rattle.hsr_plan_text.specs.declared.fault.PlanFault.{PlanFault}
 use Rattle.hsr_plan_network.specs.Nodes.{Node}
@@ -17,6 +16,7 @@ use Rattle.hsr_plan_scenario.specs.declared.planning.Ending.TheVariants.{Planned
 use Rattle.hsr_plan_sweep.specs.Lines.{Words, sweep_text}
 use Rattle.hsr_plan_sweep.specs.Refusals.{IsUnsweepable, cases_in, ground}
 use Rattle.hsr_plan_sweep.specs.Runs.{ArePlayed}
+use Rattle.hsr_plan_sweep.specs.Variants.{plan_in}
 use Rattle.hsr_plan_sweep.specs.Verdict.{is_in_doubt}
 use Rattle.hsr_plan_sweep.specs.declared.asked.Asked.{Asked}
 use Rattle.hsr_plan_sweep.specs.declared.playing.Played.{Played}
@@ -44,18 +44,21 @@ pub record TellsPlays (asked : Asked) (m : Meaning) (plays : List Played) (text 
 
 -- ---- sweeps
 
--- all cases that are asked for are counted of what is said as a plan that means this, and told
-pub record TellsSweep (said : Result Plan PlanFault) (asked : Asked) (m : Meaning) (text : List ℕ) (ending : Ending) : Type 0 where
+-- a plan means this, and all cases that are asked for are counted of it
+pub record IsPlayedPlan (plan : Plan) (asked : Asked) (m : Meaning) (plays : List Played) : Type 0 where
+  pub means : Means plan m
+  pub played : ArePlayed (Ok plan) (ground asked.at m) (cases_in asked m) plays
+
+-- and told
+pub record IsSweptPlan (plan : Plan) (asked : Asked) (text : List ℕ) (ending : Ending) : Type 0 where
+  pub meaning : Meaning
   pub plays : List Played
-  pub played : ArePlayed said (ground asked.at m) (cases_in asked m) plays
-  pub tells : TellsPlays asked m plays text ending
+  pub played : IsPlayedPlan plan asked meaning plays
+  pub tells : TellsPlays asked meaning plays text ending
 
-abbrev pub IsSweptPlan : Plan → Asked → List ℕ → Ending → Type 0
-IsSweptPlan plan asked text ending = (m : Meaning) × Means plan m × TellsSweep (Ok plan) asked m text ending
-
--- octets are a text, and these are the lines of the sweep of what it says as a plan
+-- octets are a text, and these are the lines of the sweep of what it says as a plan, without its own events where they are left out
 abbrev pub IsSwept : List ℕ → Asked → List ℕ → Ending → Type 0
-IsSwept octets asked text ending = IsUtf8 octets × ((plan : Plan) × (plan_of octets ≡ Ok plan) × IsSweptPlan plan asked text ending)
+IsSwept octets asked text ending = IsUtf8 octets × ((plan : Plan) × (plan_in asked.without_events octets ≡ Ok plan) × IsSweptPlan plan asked text ending)
 
 -- ---- ends
 

@@ -1,13 +1,15 @@
 -- A plan in which a link or a node is off from a moment on: what goes off stands behind the plan's own events.
-use Rattle.std.specs.Prelude.{ℕ, List, [], ◌∷◌, ◌++◌, slice_get, Option, Some, None}
+use Rattle.std.specs.Prelude.{ℕ, Bool, true, false, List, [], ◌∷◌, ◌++◌, slice_get, Option, Some, None, Result, Ok, Err}
 use Rattle.hsr_node.specs.Words.{letter}
 use Rattle.hsr_topology.specs.declared.end.End.{End}
 use Rattle.hsr_faults.specs.declared.fault.Fault.TheVariants.{One, Two}
 use Rattle.hsr_faults.specs.declared.fault.Off.{Off as Piece}
 use Rattle.hsr_faults.specs.declared.fault.Off.TheVariants as piece
+use Rattle.hsr_plan_text.specs.Meaning.{plan_of}
 use Rattle.hsr_plan_text.specs.Plan.{Plan}
 use Rattle.hsr_plan_text.specs.declared.plan.Deed.{Deed}
 use Rattle.hsr_plan_text.specs.declared.plan.Deed.TheVariants.{Cut, Off}
+use Rattle.hsr_plan_text.specs.declared.fault.PlanFault.{PlanFault}
 use Rattle.hsr_plan_text.specs.declared.plan.LinkEnd.{LinkEnd}
 use Rattle.hsr_plan_network.specs.Nodes.{Node}
 use Rattle.hsr_plan_sweep.specs.declared.cases.Case.{Case}
@@ -19,10 +21,24 @@ pub record Ground : Type 0 where
   pub nodes : List Node
   pub links : List (List End)
 
--- a plan's text, and among what something is off
+-- a plan's text, whether its own events are left out, and among what something is off
 pub record Swept : Type 0 where
   pub text : List ℕ
+  pub without_events : Bool
   pub ground : Ground
+
+-- a plan, without its own events where they are left out
+abbrev pub bared : Bool → Plan → Plan
+bared false plan = plan
+bared true plan = record plan { events = [] }
+
+abbrev pub bared_if : Bool → Result Plan PlanFault → Result Plan PlanFault
+bared_if bare (Ok plan) = Ok (bared bare plan)
+bared_if bare (Err fault) = Err fault
+
+-- what a text says as a plan, so
+abbrev pub plan_in : Bool → List ℕ → Result Plan PlanFault
+plan_in bare text = bared_if bare (plan_of text)
 
 abbrev pub end_if : Option Node → ℕ → LinkEnd
 end_if None port = record { name = []; letter = None }

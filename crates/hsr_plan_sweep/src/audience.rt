@@ -8,7 +8,7 @@ use std::marker::Model;
 
 /// The nodes of a plan, its streams, and its events.
 #[derive(Drop)]
-pub(crate) struct Audience<'a> {
+pub struct Audience<'a> {
     pub nodes: &'a [Node],
     pub streams: &'a [Stream],
     pub events: &'a [Event],
@@ -127,7 +127,7 @@ impl<'a> Audience<'a> {
     }
 
     /// Whether a node needs what is sent at a moment, from the stream of that number: it is on, and the stream is for it.
-    fn needs(&self, stream: Option<usize>, at: u64, node: usize) -> bool
+    pub fn needs(&self, stream: Option<usize>, at: u64, node: usize) -> bool
         ensures { result ≡ needs self.now stream at node }
     {
         match self.nodes.get(node) {

@@ -11,7 +11,7 @@ use std::alloc::Global;
 
 /// What is off in a run.
 #[derive(Clone, Copy, Debug, PartialEq, Eq)]
-pub(crate) enum Case {
+pub enum Case {
     Undisturbed,
     Off(Fault),
 }

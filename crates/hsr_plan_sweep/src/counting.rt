@@ -20,7 +20,7 @@ use std::alloc::Global;
 /// load of a channel, in kbit/s of its worst millisecond; what the audit of networks found; and the first send that was missed, with the
 /// first node that did.
 #[derive(Clone, Copy, Debug, PartialEq, Eq)]
-pub(crate) struct Count {
+pub struct Count {
     pub sends: usize,
     pub complete: usize,
     pub missed: usize,
@@ -35,14 +35,14 @@ pub(crate) struct Count {
 
 /// A send, and a node that missed it.
 #[derive(Clone, Copy, Debug, PartialEq, Eq)]
-pub(crate) struct Miss {
+pub struct Miss {
     pub send: Probe,
     pub node: usize,
 }
 
 /// What became of a send: one at which it was due missed it, one took it up twice, and one took it up at which it wasn't due at all.
 #[derive(Clone, Copy, Debug, PartialEq, Eq)]
-pub(crate) struct Outcome {
+pub struct Outcome {
     pub missed: bool,
     pub twice: bool,
     pub strayed: bool,
@@ -59,8 +59,8 @@ fn outcome_of(audience: &Audience<'_>, stream: Option<usize>, send: &Delivery) -
     }
 }
 
-/// The stream of the send at an index.
-fn stream_at(streams: &[Option<usize>], index: usize) -> Option<usize>
+/// The stream of the send at an index; none where it is of none.
+pub fn stream_at(streams: &[Option<usize>], index: usize) -> Option<usize>
     ensures { result ≡ stream_if (slice_get streams.now index) }
 {
     match streams.get(index) {
@@ -69,9 +69,9 @@ fn stream_at(streams: &[Option<usize>], index: usize) -> Option<usize>
     }
 }
 
-/// What became of each send, where these are their streams.
+/// What became of each send for an audience, where these are their streams. `NoMemory` if allocation fails.
 #[tactic(auto, using(crate::proofs::Listing::outcomes_step))]
-fn outcomes(
+pub fn outcomes(
     alloc: Global,
     audience: &Audience<'_>,
     streams: &[Option<usize>],
@@ -116,13 +116,22 @@ fn first_missed(
     None
 }
 
+impl Outcome {
+    /// Whether the send is complete: each that needed it took it up once, and nobody else did.
+    pub fn is_complete(&self) -> bool
+        ensures { result ≡ is_complete self.now }
+    {
+        !(self.missed || (self.twice || self.strayed))
+    }
+}
+
 /// How many sends are complete.
 fn complete(outcomes: &[Outcome]) -> usize
     ensures { result ≡ count_by is_complete outcomes.now }
 {
     outcomes
         .iter()
-        .filter(|outcome| !(outcome.missed || (outcome.twice || outcome.strayed)))
+        .filter(|outcome| outcome.is_complete())
         .count()
 }
 
@@ -162,8 +171,9 @@ fn load<const C: usize>(alloc: Global, closed: &Closed<C>) -> Result<u64, NoMemo
     }
 }
 
-/// What is counted of a run for an audience, where these are the streams of its sends.
-pub(crate) fn counted<const C: usize>(
+/// What is counted of a run for an audience, where these are the streams of its sends, by node and as each sent them. `NoMemory` if
+/// allocation fails.
+pub fn counted<const C: usize>(
     alloc: Global,
     closed: &Closed<C>,
     audience: &Audience<'_>,

@@ -29,4 +29,11 @@ mod variants;
 mod verdict;
 
 pub use asked::{Asked, Part};
-pub use sweeping::sweep_run;
+pub use audience::Audience;
+pub use cases::Case;
+pub use counting::{Count, Miss, Outcome, counted, outcomes, stream_at};
+pub use lines::put_found;
+pub use playing::Played;
+pub use sendings::streams_of;
+pub use sweeping::{SweptPlan, play_plan, read_plan, sweep_run};
+pub use verdict::is_in_doubt;

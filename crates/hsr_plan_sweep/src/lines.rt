@@ -103,14 +103,14 @@ fn put_limits(text: &mut Vec<u8>, words: &Words<'_>, count: &Count) -> Result<()
 }
 
 /// Puts the first send that was missed last, as a doubt; or that none was.
-fn put_first(text: &mut Vec<u8>, words: &Words<'_>, first: Option<Miss>) -> Result<(), NoMemory>
-    ensures { OnOk result (text.new.items ≡ text.old.items ++ first_text words.now first) }
+fn put_first(text: &mut Vec<u8>, naming: &Naming, first: Option<Miss>) -> Result<(), NoMemory>
+    ensures { OnOk result (text.new.items ≡ text.old.items ++ first_text naming.now first) }
 {
     match first {
         None => put(text, "none missed\n"),
         Some(miss) => put_finding(
             text,
-            words.naming,
+            naming,
             Finding::Doubt(Doubt::CutOff {
                 node: miss.send.node,
                 place: miss.send.place,
@@ -120,14 +120,15 @@ fn put_first(text: &mut Vec<u8>, words: &Words<'_>, first: Option<Miss>) -> Resu
     }
 }
 
-/// Puts what was found last. The audit asks for nodes that are off too, and for those whom no stream is for: where it tells of a send that
-/// doesn't come to one, the first is told that was missed.
-fn put_found(text: &mut Vec<u8>, words: &Words<'_>, count: &Count) -> Result<(), NoMemory>
-    ensures { OnOk result (text.new.items ≡ text.old.items ++ found_text words.now count.now) }
+/// Puts what was found of a run last, as its line of a sweep ends. The audit asks for nodes that are off too, and for those whom no stream
+/// is for: where it tells of a send that doesn't come to one, the first is told that was missed. `NoMemory` if allocation fails; a front
+/// of it may stand there then.
+pub fn put_found(text: &mut Vec<u8>, naming: &Naming, count: &Count) -> Result<(), NoMemory>
+    ensures { OnOk result (text.new.items ≡ text.old.items ++ found_text naming.now count.now) }
 {
     match count.finding {
-        Finding::Doubt(Doubt::CutOff { .. }) => put_first(text, words, count.first),
-        finding => put_finding(text, words.naming, finding),
+        Finding::Doubt(Doubt::CutOff { .. }) => put_first(text, naming, count.first),
+        finding => put_finding(text, naming, finding),
     }
 }
 
@@ -140,7 +141,7 @@ fn put_counted(text: &mut Vec<u8>, words: &Words<'_>, count: &Count) -> Result<(
     put_tables(text, words, count)?;
     put_limits(text, words, count)?;
     put(text, " ")?;
-    put_found(text, words, count)
+    put_found(text, words.naming, count)
 }
 
 /// Puts the line of a run last.

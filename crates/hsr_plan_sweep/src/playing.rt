@@ -1,9 +1,8 @@
 //! The runs of all cases, several at a time.
 ghost use Rattle.std.specs.Prelude.{◌≡◌, ◌++◌, ◌<◌, [], false, length, IfErr, IfOk, IfSome, MatchResult, None, Ok, OnOk};
-ghost use Rattle.hsr_plan_text.specs.Meaning.{plan_of};
 ghost use Rattle.hsr_plan_sweep.specs.Refusals.{IsKnown, IsUncounted, IsUnplayedAmong, TellsCase};
 ghost use Rattle.hsr_plan_sweep.specs.Runs.{AddsPlays, ArePlayed, IfSays, IsCountOf};
-ghost use Rattle.hsr_plan_sweep.specs.Variants.{varied};
+ghost use Rattle.hsr_plan_sweep.specs.Variants.{bared, plan_in, varied};
 ghost use Rattle.hsr_plan_sweep.specs.declared.running.Trouble.TheVariants.{Memory as NoRoom};
 
 use crate::cases::Case;
@@ -23,15 +22,16 @@ const AT_ONCE: usize = 64;
 
 /// What is off in a run, and what is counted of it.
 #[derive(Clone, Copy, Debug, PartialEq, Eq)]
-pub(crate) struct Played {
+pub struct Played {
     pub case: Case,
     pub count: Count,
 }
 
-/// A plan's text, and among what something is off.
+/// A plan's text, whether its own events are left out, and among what something is off.
 #[derive(Drop)]
 pub(crate) struct Swept<'a> {
     pub text: &'a str,
+    pub without_events: bool,
     pub ground: Ground<'a>,
 }
 
@@ -40,16 +40,28 @@ impl<'a> Model for Swept<'a> {
 
     ghost Value = { Swept };
 
-    ghost view = { λ s. record { text = s.text.now; ground = s.ground } };
+    ghost view = { λ s. record { text = s.text.now; without_events = s.without_events; ground = s.ground } };
 }
 
-/// What a text says as a plan, which was read before.
-fn plan_again(alloc: Global, text: &str) -> Result<Plan, Trouble>
-    ensures plan { IfOk result (λ plan. plan_of text.now ≡ Ok plan) }
+/// Takes a plan's own events out of it, where they are left out.
+pub(crate) fn bare(alloc: Global, plan: &mut Plan, without_events: bool)
+    ensures { plan.new ≡ bared without_events plan.old }
+{
+    if without_events {
+        plan.events = Vec::new(alloc);
+    }
+}
+
+/// What a text says as a plan, which was read before, without its own events where they are left out.
+fn plan_again(alloc: Global, text: &str, without_events: bool) -> Result<Plan, Trouble>
+    ensures plan { IfOk result (λ plan. plan_in without_events text.now ≡ Ok plan) }
     ensures none { IfErr result (λ trouble. trouble ≡ NoRoom) }
 {
     match read(alloc, text) {
-        Ok(plan) => Ok(plan),
+        Ok(mut plan) => {
+            bare(alloc, &mut plan, without_events);
+            Ok(plan)
+        }
         // Only for memory: else it was refused when it was read first.
         Err(_) => Err(Trouble::Memory),
     }
@@ -57,12 +69,12 @@ fn plan_again(alloc: Global, text: &str) -> Result<Plan, Trouble>
 
 /// The plan of a case.
 fn variant(alloc: Global, swept: &Swept<'_>, case: Case) -> Result<Plan, Trouble>
-    ensures plan { IfOk result (λ plan. IfSays (plan_of swept.now.text) (λ first.
+    ensures plan { IfOk result (λ plan. IfSays (plan_in swept.now.without_events swept.now.text) (λ first.
         plan ≡ varied swept.now.ground case first)) }
     ensures none { IfErr result (λ trouble. trouble ≡ NoRoom) }
 {
     // Each thread reads the text for itself, so that none needs a copy of the plan.
-    match plan_again(alloc, swept.text) {
+    match plan_again(alloc, swept.text, swept.without_events) {
         Ok(mut plan) => match vary(alloc, &mut plan, &swept.ground, case) {
             Ok(()) => Ok(plan),
             Err(_) => Err(Trouble::Memory),
@@ -86,7 +98,7 @@ fn counted(alloc: Global, plan: &Plan, case: Case) -> Result<Played, Trouble>
 /// The count of a case.
 #[tactic(auto, using(crate::proofs::Plays::told_by_count, crate::proofs::Plays::told_no_memory))]
 fn play(alloc: Global, swept: &Swept<'_>, case: Case) -> Result<Played, Trouble>
-    ensures { TellsCase (plan_of swept.now.text) swept.now.ground case result }
+    ensures { TellsCase (plan_in swept.now.without_events swept.now.text) swept.now.ground case result }
 {
     match variant(alloc, swept, case) {
         Ok(plan) => counted(alloc, &plan, case),
@@ -102,8 +114,8 @@ fn collected<T: Threads + Sync>(
     cases: &[Case],
 ) -> Result<Result<Vec<Played>, Trouble>, AllocError>
     ensures { IfOk result (λ played. MatchResult played
-        (λ plays. ArePlayed (plan_of swept.now.text) swept.now.ground cases.now plays.items)
-        (λ trouble. IsKnown trouble → IsUnplayedAmong (plan_of swept.now.text) swept.now.ground cases.now)) }
+        (λ plays. ArePlayed (plan_in swept.now.without_events swept.now.text) swept.now.ground cases.now plays.items)
+        (λ trouble. IsKnown trouble → IsUnplayedAmong (plan_in swept.now.without_events swept.now.text) swept.now.ground cases.now)) }
 {
     // A case is a whole run, so even two of them are worth two threads.
     cases
@@ -111,7 +123,7 @@ fn collected<T: Threads + Sync>(
         .with_min_len(1)
         .map(
             |case: &Case| -> Result<Played, Trouble>
-                ensures { TellsCase (plan_of swept.entry.now.text) swept.entry.now.ground case.now result }
+                ensures { TellsCase (plan_in swept.entry.now.without_events swept.entry.now.text) swept.entry.now.ground case.now result }
             { play(alloc, swept, *case) },
         )
         .collect(rt, alloc)
@@ -125,8 +137,8 @@ fn play_some<T: Threads + Sync>(
     cases: &[Case],
 ) -> Result<Vec<Played>, Trouble>
     ensures { MatchResult result
-        (λ plays. ArePlayed (plan_of swept.now.text) swept.now.ground cases.now plays.items)
-        (λ trouble. IsKnown trouble → IsUnplayedAmong (plan_of swept.now.text) swept.now.ground cases.now) }
+        (λ plays. ArePlayed (plan_in swept.now.without_events swept.now.text) swept.now.ground cases.now plays.items)
+        (λ trouble. IsKnown trouble → IsUnplayedAmong (plan_in swept.now.without_events swept.now.text) swept.now.ground cases.now) }
 {
     match collected(rt, alloc, swept, cases) {
         Ok(played) => played,
@@ -155,8 +167,8 @@ fn play_next<T: Threads + Sync>(
     plays: &mut Vec<Played>,
 ) -> Result<(), Trouble>
     ensures { MatchResult result
-        (λ _. AddsPlays (plan_of swept.now.text) swept.now.ground cases.now plays.old.items plays.new.items)
-        (λ trouble. IsKnown trouble → IsUnplayedAmong (plan_of swept.now.text) swept.now.ground cases.now) }
+        (λ _. AddsPlays (plan_in swept.now.without_events swept.now.text) swept.now.ground cases.now plays.old.items plays.new.items)
+        (λ trouble. IsKnown trouble → IsUnplayedAmong (plan_in swept.now.without_events swept.now.text) swept.now.ground cases.now) }
 {
     match play_some(rt, alloc, swept, cases) {
         Ok(more) => append(plays, more.as_slice()),
@@ -187,9 +199,9 @@ pub(crate) fn play_all<T: Threads + Sync, E: Write>(
     errors: &mut E,
 ) -> Result<Vec<Played>, Trouble>
     ensures played { IfOk result (λ plays.
-        ArePlayed (plan_of swept.now.text) swept.now.ground cases.now plays.items) }
+        ArePlayed (plan_in swept.now.without_events swept.now.text) swept.now.ground cases.now plays.items) }
     ensures none { IfErr result (λ trouble. IsKnown trouble
-        → IsUnplayedAmong (plan_of swept.now.text) swept.now.ground cases.now) }
+        → IsUnplayedAmong (plan_in swept.now.without_events swept.now.text) swept.now.ground cases.now) }
     ensures hidden { is_shown ≡ false → E.contents errors.new ≡ E.contents errors.old }
 {
     let progress = Progress {

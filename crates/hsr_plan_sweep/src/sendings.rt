@@ -113,8 +113,9 @@ fn by_node(
     Ok(streams)
 }
 
-/// Of which stream each send is of so many nodes that do these orders; of none where it is supervision.
-pub(crate) fn streams_of(
+/// Of which stream each send is of so many nodes that do these orders, by node and as each sent them; of none where it is supervision. The
+/// frames that the orders send are of these streams. `NoMemory` if allocation fails.
+pub fn streams_of(
     alloc: Global,
     streams: &[usize],
     orders: &[Order],

@@ -1,14 +1,14 @@
 //! The sweep of a plan, over a reader and two writers.
 ghost use Rattle.std.specs.Prelude.{◌≡◌, false, IfErr, IfOk, IfSome, IsOk, Ok};
-ghost use Rattle.hsr_plan_text.specs.Meaning.{plan_of};
-ghost use Rattle.hsr_plan_sweep.specs.Refusals.{IsKnown, IsUnplayedAmong, IsUnsweepable, IsUnswept, cases_in, ground, is_behind};
+ghost use Rattle.hsr_plan_sweep.specs.Refusals.{IsKnown, IsUnplayedAmong, IsUnsweepable, IsUnswept, IsUnsweptIf, cases_in, ground, is_behind};
 ghost use Rattle.hsr_plan_sweep.specs.Runs.{ArePlayed};
-ghost use Rattle.hsr_plan_sweep.specs.Swept.{IsNamingOf, IsSwept, IsSweptPlan, SweepEnds, TellsPlays, TellsSweep, ending_of};
+ghost use Rattle.hsr_plan_sweep.specs.Swept.{IsNamingOf, IsPlayedPlan, IsSwept, IsSweptPlan, SweepEnds, TellsPlays, ending_of};
+ghost use Rattle.hsr_plan_sweep.specs.Variants.{plan_in};
 
 use crate::asked::Asked;
 use crate::cases::cases_of;
 use crate::lines::{Words, lines};
-use crate::playing::{Played, Swept, play_all};
+use crate::playing::{Played, Swept, bare, play_all};
 use crate::progress::clear;
 use crate::running::Trouble;
 use crate::variants::Ground;
@@ -115,9 +115,9 @@ fn plays_of<T: Threads + Sync, E: Write>(
     is_shown: bool,
     errors: &mut E,
 ) -> Result<Vec<Played>, Trouble>
-    ensures played { IfOk result (λ plays. ArePlayed (plan_of text.now) (ground asked.at meaning.now)
+    ensures played { IfOk result (λ plays. ArePlayed (plan_in asked.without_events text.now) (ground asked.at meaning.now)
         (cases_in asked meaning.now) plays.items) }
-    ensures none { IfErr result (λ trouble. IsKnown trouble → IsUnplayedAmong (plan_of text.now)
+    ensures none { IfErr result (λ trouble. IsKnown trouble → IsUnplayedAmong (plan_in asked.without_events text.now)
         (ground asked.at meaning.now) (cases_in asked meaning.now)) }
     ensures hidden { is_shown ≡ false → E.contents errors.new ≡ E.contents errors.old }
 {
@@ -129,12 +129,16 @@ fn plays_of<T: Threads + Sync, E: Write>(
         nodes: meaning.nodes.as_slice(),
         links: meaning.topology.links(),
     };
-    let swept = Swept { text, ground };
+    let swept = Swept {
+        text,
+        without_events: asked.without_events,
+        ground,
+    };
     play_all(rt, alloc, &swept, cases.as_slice(), is_shown, errors)
 }
 
-/// The lines of the sweep of a plan's text that means this; or why there are none.
-fn sweep<T: Threads + Sync, E: Write>(
+/// What is counted of the cases that are asked for of a plan's text that means this, or the line of what is wrong.
+fn plays_or_line<T: Threads + Sync, E: Write>(
     rt: &T,
     alloc: Global,
     text: &str,
@@ -142,47 +146,31 @@ fn sweep<T: Threads + Sync, E: Write>(
     asked: Asked,
     is_shown: bool,
     errors: &mut E,
-) -> Result<Told, Trouble>
-    ensures told { IfOk result (λ told. TellsSweep (plan_of text.now) asked meaning.now told.text.items told.ending) }
-    ensures none { IfErr result (λ trouble. IsKnown trouble → IsUnplayedAmong (plan_of text.now)
+) -> Result<Vec<Played>, Line>
+    ensures played { IfOk result (λ plays. ArePlayed (plan_in asked.without_events text.now) (ground asked.at meaning.now)
+        (cases_in asked meaning.now) plays.items) }
+    ensures none { IfErr result (λ line. IsOk line → IsUnplayedAmong (plan_in asked.without_events text.now)
         (ground asked.at meaning.now) (cases_in asked meaning.now)) }
     ensures hidden { is_shown ≡ false → E.contents errors.new ≡ E.contents errors.old }
 {
-    match plays_of(rt, alloc, text, meaning, asked, is_shown, errors) {
-        Ok(plays) => match told_of(alloc, asked, meaning, plays.as_slice()) {
-            Ok(told) => Ok(told),
-            Err(_) => Err(Trouble::Memory),
-        },
-        Err(trouble) => Err(trouble),
-    }
-}
-
-/// The lines of the sweep of a plan's text that means this, or the line of what is wrong.
-fn sweep_or_line<T: Threads + Sync, E: Write>(
-    rt: &T,
-    alloc: Global,
-    text: &str,
-    meaning: &Meaning,
-    asked: Asked,
-    is_shown: bool,
-    errors: &mut E,
-) -> Result<Told, Line>
-    ensures told { IfOk result (λ told. TellsSweep (plan_of text.now) asked meaning.now told.text.items told.ending) }
-    ensures none { IfErr result (λ line. IsOk line → IsUnplayedAmong (plan_of text.now)
-        (ground asked.at meaning.now) (cases_in asked meaning.now)) }
-    ensures hidden { is_shown ≡ false → E.contents errors.new ≡ E.contents errors.old }
-{
-    let told = sweep(rt, alloc, text, meaning, asked, is_shown, errors);
+    let plays = plays_of(rt, alloc, text, meaning, asked, is_shown, errors);
     // Before a fault's line is written there.
     clear(is_shown, errors);
-    match told {
-        Ok(told) => Ok(told),
+    match plays {
+        Ok(plays) => Ok(plays),
         Err(trouble) => Err(line_of_trouble(alloc, text, &trouble)),
     }
 }
 
-/// The lines of a plan's sweep from a moment that isn't behind its end, or the line of what is wrong.
-fn swept_in_time<T: Threads + Sync, E: Write>(
+/// What a sweep played: what the plan means, and what is counted of each case, of the undisturbed one last.
+#[derive(Debug, Drop)]
+pub struct SweptPlan {
+    pub meaning: Meaning,
+    pub plays: Vec<Played>,
+}
+
+/// What is counted of a plan's cases, from a moment that isn't behind its end; or the line of what is wrong.
+fn play_in_time<T: Threads + Sync, E: Write>(
     rt: &T,
     alloc: Global,
     text: &str,
@@ -190,16 +178,42 @@ fn swept_in_time<T: Threads + Sync, E: Write>(
     asked: Asked,
     is_shown: bool,
     errors: &mut E,
-) -> Result<Told, Line>
-    requires { plan_of text.now ≡ Ok plan.now }
-    ensures told { IfOk result (λ told. IsSweptPlan plan.now asked told.text.items told.ending) }
+) -> Result<SweptPlan, Line>
+    requires { plan_in asked.without_events text.now ≡ Ok plan.now }
+    ensures played { IfOk result (λ p. IsPlayedPlan plan.now asked p.meaning p.plays.items) }
     ensures none { IfErr result (λ line. IsOk line → IsUnswept plan.now asked) }
     ensures hidden { is_shown ≡ false → E.contents errors.new ≡ E.contents errors.old }
 {
     match meaning_of(alloc, plan) {
-        Ok(meaning) => sweep_or_line(rt, alloc, text, &meaning, asked, is_shown, errors),
+        Ok(meaning) => match plays_or_line(rt, alloc, text, &meaning, asked, is_shown, errors) {
+            Ok(plays) => Ok(SweptPlan { meaning, plays }),
+            Err(line) => Err(line),
+        },
         Err(fault) => Err(line_of(alloc, text, &PlanTrouble::Plan(fault))),
     }
+}
+
+/// What is counted of each case that is asked for of a plan, which this text says; or the line of what is wrong. Runs are played by as many
+/// threads as there are processors. Where that is asked for, `errors` is told how far it is; nothing else is written there.
+pub fn play_plan<T: Threads + Sync, E: Write>(
+    rt: &T,
+    alloc: Global,
+    text: &str,
+    plan: &Plan,
+    asked: Asked,
+    is_shown: bool,
+    errors: &mut E,
+) -> Result<SweptPlan, Line>
+    requires { plan_in asked.without_events text.now ≡ Ok plan.now }
+    ensures played { IfOk result (λ p. IsPlayedPlan plan.now asked p.meaning p.plays.items) }
+    ensures none { IfErr result (λ line. IsOk line → IsUnswept plan.now asked) }
+    ensures hidden { is_shown ≡ false → E.contents errors.new ≡ E.contents errors.old }
+{
+    if is_behind(plan.outline.until, asked.at) {
+        let trouble = PlanTrouble::Plan(behind_the_end());
+        return Err(line_of(alloc, text, &trouble));
+    }
+    play_in_time(rt, alloc, text, plan, asked, is_shown, errors)
 }
 
 /// The lines of a plan's sweep, or the line of what is wrong.
@@ -212,16 +226,51 @@ fn swept_plan<T: Threads + Sync, E: Write>(
     is_shown: bool,
     errors: &mut E,
 ) -> Result<Told, Line>
-    requires { plan_of text.now ≡ Ok plan.now }
+    requires { plan_in asked.without_events text.now ≡ Ok plan.now }
     ensures told { IfOk result (λ told. IsSweptPlan plan.now asked told.text.items told.ending) }
     ensures none { IfErr result (λ line. IsOk line → IsUnswept plan.now asked) }
     ensures hidden { is_shown ≡ false → E.contents errors.new ≡ E.contents errors.old }
 {
-    if is_behind(plan.outline.until, asked.at) {
-        let trouble = PlanTrouble::Plan(behind_the_end());
-        return Err(line_of(alloc, text, &trouble));
+    match play_plan(rt, alloc, text, plan, asked, is_shown, errors) {
+        Ok(played) => match told_of(alloc, asked, &played.meaning, played.plays.as_slice()) {
+            Ok(told) => Ok(told),
+            Err(_) => Err(Err(NoMemory)),
+        },
+        Err(line) => Err(line),
     }
-    swept_in_time(rt, alloc, text, plan, asked, is_shown, errors)
+}
+
+/// What a text says as a plan, without its own events where they are left out; or the line of what is wrong.
+pub fn read_plan(alloc: Global, text: &str, asked: Asked) -> Result<Plan, Line>
+    ensures plan { IfOk result (λ plan. plan_in asked.without_events text.now ≡ Ok plan) }
+    ensures none { IfErr result (λ line. IsOk line → IsUnsweptIf (plan_in asked.without_events text.now) asked) }
+{
+    match read(alloc, text) {
+        Ok(mut plan) => {
+            bare(alloc, &mut plan, asked.without_events);
+            Ok(plan)
+        }
+        Err(fault) => Err(line_of(alloc, text, &PlanTrouble::Plan(fault))),
+    }
+}
+
+/// The lines of the sweep of what a text says as a plan, or the line of what is wrong.
+fn swept_text<T: Threads + Sync, E: Write>(
+    rt: &T,
+    alloc: Global,
+    text: &str,
+    asked: Asked,
+    is_shown: bool,
+    errors: &mut E,
+) -> Result<Told, Line>
+    ensures told { IfOk result (λ told. IsSwept text.now asked told.text.items told.ending) }
+    ensures none { IfErr result (λ line. IsOk line → IsUnsweepable text.now asked) }
+    ensures hidden { is_shown ≡ false → E.contents errors.new ≡ E.contents errors.old }
+{
+    match read_plan(alloc, text, asked) {
+        Ok(plan) => swept_plan(rt, alloc, text, &plan, asked, is_shown, errors),
+        Err(line) => Err(line),
+    }
 }
 
 /// The lines of the sweep of what octets say as a plan, or the line of what is wrong.
@@ -240,10 +289,7 @@ fn swept<T: Threads + Sync, E: Write>(
     let Ok(text) = str::from_utf8(octets) else {
         return Err(words(alloc, "fault: plan 1:1 no UTF-8"));
     };
-    match read(alloc, text) {
-        Ok(plan) => swept_plan(rt, alloc, text, &plan, asked, is_shown, errors),
-        Err(fault) => Err(line_of(alloc, text, &PlanTrouble::Plan(fault))),
-    }
+    swept_text(rt, alloc, text, asked, is_shown, errors)
 }
 
 /// Writes the lines of a sweep, or the line of what is wrong.

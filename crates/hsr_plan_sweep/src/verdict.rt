@@ -56,7 +56,7 @@ fn is_doubtful(asked: Asked, played: &Played) -> bool
 }
 
 /// Whether one of these runs is in doubt.
-pub(crate) fn is_in_doubt(asked: Asked, plays: &[Played]) -> bool
+pub fn is_in_doubt(asked: Asked, plays: &[Played]) -> bool
     ensures { result ≡ is_in_doubt asked plays.now }
 {
     plays.iter().any(|played| is_doubtful(asked, played))

@@ -1,5 +1,5 @@
 -- The page of a finished run.
---     IsPageOf   its text: the data is what was asked for of the run, each entry and each row once, in the order of time
+--     IsPageWith   its text: the data is what was asked for of the run, each entry and each row once, in the order of time
 use Rattle.std.specs.Prelude.{ℕ, ◌≡◌, List, None}
 use Rattle.hsr_node.specs.declared.event.Probe.{Probe}
 use Rattle.hsr_finished_run.specs.Finished.{Finished}

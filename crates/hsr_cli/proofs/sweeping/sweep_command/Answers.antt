@@ -6,6 +6,7 @@ use Rattle.hsr_cli.proofs.sweeping.sweep_command.Goals as goal
 
 pub returns-clause-app : goal.returns-clause-app
 returns-clause-app c =
-    let one = c.in_ok-one.ensures.app ∙ ap (λ (a : App). with_rule a (flag_rule (codes "pairs"))) c.in_ok-sweep_from.ensures.app in
-    let two = c.in_ok-two.ensures.app ∙ ap (λ (a : App). with_rule a (word_rule (codes "part"))) one in
-    subst (λ (a : App). IfOk c.limiting.result (λ c'. app_of c' ≡ with_limits a)) two c.limiting.ensures.app
+    let one = c.in_ok-one.ensures.app ∙ ap (λ (a : App). with_rule a (flag_rule (codes "without-events"))) c.in_ok-sweep_from.ensures.app in
+    let two = c.in_ok-two.ensures.app ∙ ap (λ (a : App). with_rule a (flag_rule (codes "pairs"))) one in
+    let three = c.in_ok-three.ensures.app ∙ ap (λ (a : App). with_rule a (word_rule (codes "part"))) two in
+    subst (λ (a : App). IfOk c.limiting.result (λ c'. app_of c' ≡ with_limits a)) three c.limiting.ensures.app
