@@ -335,6 +335,14 @@ try_completions() {
   is 'input' "$top/crates.txt" "$(completed hsr_bench run '<' "$top/crates.t")"
 }
 
+# A program starts where the C library has all versions that it asks for. GLIBC 2.34 is of 2021; by a newer one it wouldn't start on Debian 12.
+try_old_library() {
+  local name
+  for name in "${names[@]}"; do
+    is "the newest part of the C library that $name asks for" GLIBC_2.34 "$(grep -aoE 'GLIBC_[0-9]+(\.[0-9]+)+' "$top/release/$name" | sort -uV | tail -1)"
+  done
+}
+
 lay_clean
 lay_kit
 lay_tree
@@ -351,5 +359,6 @@ try_release
 try_install
 try_sum
 try_completions
+try_old_library
 echo "$passed passed, $failed failed"
 [ "$failed" = 0 ]

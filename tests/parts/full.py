@@ -24,7 +24,7 @@ def commands(setting):
     yield "hsr_bench", ["audit"], transcript
     for words in (["picture"], ["capture"], ["devices"]):
         yield "hsr_view", words, transcript
-    for words in ([], ["sweep"]):
+    for words in ([], ["sweep"], ["report"]):
         yield "hsr_plan", words, plan
     captures = ROOT / "examples" / "captures"
     for words in (["lines"], ["health"]):

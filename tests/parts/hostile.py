@@ -114,8 +114,8 @@ def unread(name, last):
 
 
 def planned(name, said):
-    """What is no plan, with and without a sweep."""
-    return [(name, ["hsr_plan", *words], 1, f"fault: plan {said}"[:100]) for words in ([], ["sweep"])]
+    """What is no plan, with and without a sweep, and by its page."""
+    return [(name, ["hsr_plan", *words], 1, f"fault: plan {said}"[:100]) for words in ([], ["sweep"], ["report"])]
 
 
 def transcript_of_many(setting):

@@ -23,6 +23,7 @@ def try_command(setting, words):
 
 
 def jobs(setting):
-    """The manuals are those of the programs that are tested."""
+    """The manuals are those of the programs that are tested, where the release, in which they stand, is of these sources."""
     manuals = ["tools/manuals", "--check", *([setting.folder] if setting.folder else [])]
-    return [Job(try_command, (["tests/launcher.sh"],), 30), Job(try_command, (manuals,), 2)]
+    is_of_these = subprocess.run([ROOT / "tools" / "release", "--check"], stdout=subprocess.DEVNULL, stderr=subprocess.DEVNULL, cwd=ROOT).returncode != 1
+    return [Job(try_command, (["tests/launcher.sh"],), 30)] + ([Job(try_command, (manuals,), 2)] if is_of_these else [])

@@ -1,5 +1,6 @@
 """Plays the scenario of each example of a plan: its report and status are those of the scenario in tests/plans, which another program wrote
-of that plan, and so is its comment that counts; and a sweep says of the undisturbed run what the bench's audit of networks says."""
+of that plan, and so is its comment that counts; a sweep says of the undisturbed run what the bench's audit of networks says, and without events what
+it says of the plan without them."""
 import re
 
 from lib.case_files import ROOT
@@ -33,6 +34,9 @@ def try_plan(setting, name):
     told = r"(doubt cut-off \S+ \S+|none missed)" if verdict.startswith("doubt cut-off ") else re.escape(" ".join(verdict.split(" ")[:2])) + ".*"
     is_told = re.search(rf"^undisturbed .* load [0-9]* {told}$", swept, re.MULTILINE)
     tally.count(f"sweep of {name}", "" if is_told else f"it doesn't say {verdict} of the undisturbed run")
+    # Events stand last in these plans.
+    alone, cut = (run(setting, "hsr_plan", words, text) for words, text in ((["sweep", "--without-events"], plan), (["sweep"], plan.split(b"[[event]]")[0])))
+    tally.count(f"sweep of {name} without events", "" if alone == cut else "it isn't that of the plan without them")
     return tally
 
 

@@ -113,7 +113,7 @@ def short_rows():
     rows = [("hsr_bench", ["node"], lines), ("hsr_bench", ["run"], ring), ("hsr_bench", ["threads"], ring), ("hsr_bench", ["audit"], transcript)]
     rows += [("hsr_bench", ["certify", "--coarse"], ring)]
     rows += [("hsr_view", [word], transcript) for word in ("picture", "capture", "devices")]
-    rows += [("hsr_plan", [], SHORT_PLAN), ("hsr_plan", ["--check"], ring), ("hsr_plan", ["sweep"], SHORT_PLAN)]
+    rows += [("hsr_plan", [], SHORT_PLAN), ("hsr_plan", ["--check"], ring), ("hsr_plan", ["sweep"], SHORT_PLAN), ("hsr_plan", ["report"], SHORT_PLAN)]
     captures = ROOT / "examples" / "captures"
     rows += [("hsr_tap", ["lines", "examples/captures/lines.toml"], (captures / "lines.pcapng").read_bytes())]
     rows += [("hsr_tap", ["health", "--full"], (captures / "tcpdump_down.pcap").read_bytes())]

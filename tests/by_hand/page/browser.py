@@ -121,7 +121,9 @@ class Tab:
         return self.browser.call(method, params, self.session)
 
     def size(self, width, height):
+        """Makes the page so wide and high. Gives how wide it is."""
         self.send('Emulation.setDeviceMetricsOverride', {'width': width, 'height': height, 'deviceScaleFactor': 1, 'mobile': False})
+        return width
 
     def run(self, expression):
         """What an expression is in the page."""
@@ -139,6 +141,14 @@ class Tab:
             text = {'text': '\r' if name == 'Enter' else name} if len(name) == 1 or name == 'Enter' else {}
             self.send('Input.dispatchKeyEvent', dict(event, type='keyDown', **text))
             self.send('Input.dispatchKeyEvent', dict(event, type='keyUp'))
+
+    def controls(self):
+        """The controls of the page, each by its role and its name for readers."""
+        self.send('Accessibility.enable')
+        nodes = self.send('Accessibility.getFullAXTree')['nodes']
+        wanted = ('button', 'searchbox', 'textbox', 'combobox', 'slider', 'checkbox', 'link', 'region', 'img', 'table')
+        found = [n for n in nodes if not n.get('ignored') and n.get('role', {}).get('value') in wanted]
+        return [(n['role']['value'], n.get('name', {}).get('value')) for n in found]
 
     def said(self):
         """What the console, the log and the policy said, and what was asked for of the net."""

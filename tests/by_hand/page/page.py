@@ -1,9 +1,10 @@
 #!/usr/bin/env python3
-"""Pages in a real browser (Debian's chromium, without a window).
+"""Pages in a real browser (Debian's chromium, without a window; with --firefox Debian's firefox-esr).
 
 page.py run PAGE TRANSCRIPT [--shots FOLDER] [--speed]
                                                   the page of a run, against the transcript that it was made of; --speed asks for
                                                   30 pictures a second and 30 ms a step at most: on a machine that does nothing else
+page.py plan PAGE [--shots FOLDER]                the page of a plan: rows that are pressed are marked in the drawing, and it prints
 page.py hostile PAGE TITLE [--shots FOLDER]       a page whose title and names are hostile
 
 Prints `ok PAGE` with what was compared, or what is wrong, and then the status is 1.
@@ -22,7 +23,10 @@ from html.parser import HTMLParser
 
 sys.dont_write_bytecode = True
 sys.path.insert(0, os.path.dirname(os.path.abspath(__file__)))
-from browser import Browser, Tab        # noqa: E402
+if '--firefox' in sys.argv:
+    from firefox import Browser, Tab    # noqa: E402
+else:
+    from browser import Browser, Tab    # noqa: E402
 from run_of import Run                  # noqa: E402
 
 WIDTHS = (320, 390, 640, 641, 768, 900, 1024, 1280, 1499, 1500, 1920, 2560)
@@ -156,9 +160,9 @@ def check_widths(browser, path):
     """At no width the page is wider than the window."""
     with Tab(browser, path, 1024, 768) as tab:
         for width in WIDTHS:
-            tab.size(width, 800)
+            made = tab.size(width, 800)
             wide = tab.run('document.documentElement.scrollWidth')
-            holds('%d px: the page is %d wide' % (width, wide), wide <= width)
+            holds('%d px: the page is %d wide' % (made, wide), wide <= made)
         check_silent(tab)
 
 
@@ -198,12 +202,8 @@ def check_contrast(browser, path, before=None):
 
 def check_names(tab):
     """Each control has a name for readers."""
-    tab.send('Accessibility.enable')
-    nodes = tab.send('Accessibility.getFullAXTree')['nodes']
-    wanted = ('button', 'searchbox', 'textbox', 'combobox', 'slider', 'checkbox', 'link', 'region', 'img', 'table')
-    controls = [n for n in nodes if not n.get('ignored') and n.get('role', {}).get('value') in wanted]
-    bare = [n['role']['value'] for n in controls if not n.get('name', {}).get('value') and n['role']['value'] != 'table']
-    same('controls without a name', bare, [])
+    controls = tab.controls()
+    same('controls without a name', [role for role, name in controls if not name and role != 'table'], [])
     return len(controls)
 
 
@@ -423,7 +423,10 @@ def check_play(tab, data):
     last = len(data['marks']) - 1
     tab.key('Escape', 'Home')
     tab.run('document.getElementById("speed").value = "40"')
+    # the first picture has a moment from before the key was pressed, as where the browser was busy: here one second before
+    tab.run('{ const now = performance.now.bind(performance); performance.now = () => now() + 1000; window.giveBack = () => { performance.now = now; }; }')
     tab.key(' ')
+    tab.run('giveBack()')
     same('the play key', tab.run('document.getElementById("play").getAttribute("aria-label")'), 'Pause')
     frames = tab.run('new Promise(done => { let n = 0; const t = performance.now(), f = now => { n++; if (now - t < 1000) requestAnimationFrame(f); else done(n); }; requestAnimationFrame(f); })')
     until = time.monotonic() + 240
@@ -528,6 +531,42 @@ def run_page(path, transcript, shots, has_speed):
     return said
 
 
+# ---------------------------------------------------------------- the page of a plan
+def check_marks(tab):
+    """A row that is pressed marks its links and nodes in the drawing and keeps them; pressed again it lets them go."""
+    marked = '[...document.querySelectorAll("svg.net .lit")].map(g => g.dataset.link !== undefined ? "l" + g.dataset.link : "n" + g.dataset.node).filter((x, i, all) => all.indexOf(x) === i).sort()'
+    rows = tab.run('[...document.querySelectorAll("button.show")].map(b => { const r = b.closest("tr"); return [r.dataset.links, r.dataset.nodes]; })')
+    for at, (links, nodes) in enumerate(rows):
+        press = 'document.querySelectorAll("button.show")[%d].click()' % at
+        wanted = sorted(['l' + n for n in links.split(',') if n] + ['n' + n for n in nodes.split(',') if n])
+        tab.run(press)
+        same('marks of row %d' % at, tab.run(marked), wanted)
+        tab.run(press)
+        same('marks behind row %d' % at, tab.run(marked), [])
+    return len(rows)
+
+
+def plan_page(path, shots):
+    data = check_text(path)
+    with Browser() as browser, tempfile.TemporaryDirectory() as folder:
+        with Tab(browser, path, 1024, 768) as tab:
+            title, verdict = tab.run('[document.querySelector("h1").textContent, document.querySelector(".verdict b").textContent]')
+            same('the verdict', verdict[2:], data['any_order'])
+            said = ['%d rows' % check_marks(tab), '%d controls' % check_names(tab)]
+            check_silent(tab)
+            check_paper(tab, folder, title.split(' ')[0], *verdict.split(' ')[1:2], data['sum'])
+        with Tab(browser, path, 1024, 768) as tab:
+            said.append('focus at %d' % check_focus(tab))
+        with Tab(browser, path, 1024, 768, scripts=False) as tab:
+            check_silent(tab)
+            check_paper(tab, folder, data['sum'])
+        check_widths(browser, path)
+        said.append('%d texts in contrast' % check_contrast(browser, path))
+        if shots:
+            take_shots(browser, path, shots)
+    return said
+
+
 # ---------------------------------------------------------------- hostile texts
 def hostile_page(path, title, shots):
     """A text that would break out of its place is shown as it is, and does nothing."""
@@ -552,15 +591,17 @@ def hostile_page(path, title, shots):
 
 def main(words):
     shots, has_speed = None, '--speed' in words
-    words = [w for w in words if w != '--speed']
+    words = [w for w in words if w not in ('--speed', '--firefox')]
     if '--shots' in words:
         at = words.index('--shots')
         shots = words[at + 1]
         del words[at:at + 2]
-    if words[:1] not in (['run'], ['hostile']) or len(words) != 3:
+    kinds = {'run': lambda page, transcript: run_page(page, transcript, shots, has_speed), 'hostile': lambda page, title: hostile_page(page, title, shots),
+             'plan': lambda page: plan_page(page, shots)}
+    if not words or words[0] not in kinds or len(words) != (2 if words[0] == 'plan' else 3):
         sys.exit(__doc__)
     try:
-        said = run_page(words[1], words[2], shots, has_speed) if words[0] == 'run' else hostile_page(words[1], words[2], shots)
+        said = kinds[words[0]](*words[1:])
     except Failed as fault:
         sys.exit('%s: %s' % (words[1], fault))
     print('ok %s: %s' % (words[1], ', '.join(said)))
