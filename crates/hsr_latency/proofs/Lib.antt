@@ -1,3 +1,4 @@
 mod First
 mod Order
 mod Walks
+mod Grouping

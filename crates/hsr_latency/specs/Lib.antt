@@ -1,3 +1,4 @@
 pub mod Delays
 pub mod Latencies
 pub mod Kept
+pub mod Taken

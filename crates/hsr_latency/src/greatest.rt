@@ -21,7 +21,7 @@ fn is_greater(x: Delay, y: Delay) -> bool
 }
 
 /// The greater of two, of equals that of the lower send.
-fn greater(most: Option<Delay>, delay: Delay) -> Option<Delay>
+pub(crate) fn greater(most: Option<Delay>, delay: Delay) -> Option<Delay>
     ensures { result ≡ greater most delay }
 {
     match most {

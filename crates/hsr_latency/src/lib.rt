@@ -6,15 +6,20 @@
 //! - `delaying`: how long each took that came to a node
 //! - `greatest`: the one that took longest
 //! - `latency`: the latency of a node
-//! - `latencies`: the latencies of a run, its call
+//! - `latencies`: the latencies of a run, a call
+//! - `taken`: how long each send of a run took to each node
+//! - `grouped`: sends in groups, and of each group the one that took longest, a call
 #![tactic(auto)]
 
 mod delay;
 mod delaying;
 mod greatest;
+mod grouped;
 mod latencies;
 mod latency;
+mod taken;
 
 pub use delay::Delay;
+pub use grouped::{Member, longest_of};
 pub use latencies::latency_of;
 pub use latency::{Latency, NodeLatency};
