@@ -1,12 +1,13 @@
 -- The numbers of a plan's page, as JSON. A list ends with a 0, so that each of its rows ends with a comma.
 --     tally_row     sends, complete, entries needed, longest latency, most load
---     stream_row    sends, complete
+--     stream_row    sends, complete, the longest if one was taken up, the nodes that missed one
 --     load_row      node and port from which and to which copies go, frames, octets, mean, worst millisecond, when it begins
 --     latency_row   node, frames, longest, node and place of the send that took longest
---     outage_row    sends that are cut off
+--     outage_row    sends that are cut off, and of these those from each node
 --     case_row      sends, complete, missed, twice, entries needed, longest latency, most load
 --     data_text     all of it
-use Rattle.std.specs.Prelude.{ℕ, List, [], ◌∷◌, ◌++◌, codes, chars, encode_utf8_all}
+use Rattle.std.specs.Prelude.{ℕ, List, [], ◌∷◌, ◌++◌, codes, chars, encode_utf8_all, option_to_list}
+use Rattle.std.specs.Fmt.{decimal}
 use Rattle.std.specs.List.{flat_map}
 use Rattle.hsr_latency.specs.declared.latency.NodeLatency.{NodeLatency}
 use Rattle.hsr_load.specs.declared.load.ChannelLoad.{ChannelLoad}
@@ -44,8 +45,14 @@ row_text numbers = numbers_text numbers ++ codes ","
 abbrev pub tally_row : Tally → List ℕ
 tally_row tally = row_text (tally.sends ∷ tally.complete ∷ tally.needed ∷ tally.latency ∷ tally.load ∷ [])
 
+unfoldable pub counts_text : StreamRow → List ℕ
+counts_text row = codes "[" ++ (decimal row.sends ++ (codes "," ++ decimal row.complete))
+
+unfoldable pub notes_text : StreamRow → List ℕ
+notes_text row = codes "," ++ (numbers_text (option_to_list row.latency) ++ (codes "," ++ (numbers_text row.missing.items ++ codes "],")))
+
 abbrev pub stream_row : StreamRow → List ℕ
-stream_row row = row_text (row.sends ∷ row.complete ∷ [])
+stream_row row = counts_text row ++ notes_text row
 
 abbrev pub load_row : ChannelLoad → List ℕ
 load_row load = row_text (load.from.node ∷ load.from.port ∷ load.to.node ∷ load.to.port ∷ load.frames ∷ load.octets ∷ load.mean ∷ load.worst ∷ load.at ∷ [])
@@ -53,8 +60,8 @@ load_row load = row_text (load.from.node ∷ load.from.port ∷ load.to.node ∷
 abbrev pub latency_row : NodeLatency → List ℕ
 latency_row latency = row_text (latency.node ∷ latency.frames ∷ latency.worst.time ∷ latency.worst.send.node ∷ latency.worst.send.place ∷ [])
 
-abbrev pub outage_row : OutageRow → List ℕ
-outage_row row = row_text (row.sends ∷ [])
+unfoldable pub outage_row : OutageRow → List ℕ
+outage_row row = codes "[" ++ (decimal row.sends ++ (codes "," ++ (numbers_text row.missed.items ++ codes "],")))
 
 abbrev pub case_row : CaseRow → List ℕ
 case_row row = row_text (row.counts.tally.sends ∷ row.counts.tally.complete ∷ row.counts.missed ∷ row.counts.twice ∷ row.counts.tally.needed ∷ row.counts.tally.latency ∷ row.counts.tally.load ∷ [])

@@ -1,14 +1,15 @@
 //! The numbers of a page as JSON, so that other programs read them: a list ends with a 0, so that no row has to know whether it is the last.
-ghost use Rattle.std.specs.Prelude.{◌≡◌, ◌++◌, ◌∷◌, [], codes, OnOk};
+ghost use Rattle.std.specs.Prelude.{◌≡◌, ◌++◌, ◌∷◌, [], codes, option_to_list, OnOk};
 ghost use Rattle.std.specs.List.{flat_map};
-ghost use Rattle.hsr_plan_page.specs.Data.{case_row, cases_text, data_text, keyed, latency_row, lines_text, load_row, numbers_of, outage_row, play_text, row_text, spelled, stream_row, tally_row, told};
+ghost use Rattle.hsr_page.specs.Lists.{numbers_text};
+ghost use Rattle.hsr_plan_page.specs.Data.{case_row, cases_text, counts_text, data_text, keyed, latency_row, lines_text, load_row, notes_text, numbers_of, outage_row, play_text, row_text, spelled, stream_row, tally_row, told};
 
 use crate::facts::{CaseRow, Facts, OutageRow, StreamRow, Tally};
 use hsr_frame::NoMemory;
 use hsr_latency::NodeLatency;
 use hsr_load::ChannelLoad;
 use hsr_page::{put_json_numbers, put_json_text};
-use hsr_text::put;
+use hsr_text::{put, put_number};
 
 /// Puts a row of numbers last, with a comma behind it.
 fn put_row(text: &mut Vec<u8>, numbers: &[usize]) -> Result<(), NoMemory>
@@ -70,18 +71,57 @@ fn put_latency(text: &mut Vec<u8>, latency: NodeLatency) -> Result<(), NoMemory>
     )
 }
 
+/// Puts the list of a number last, if there is one.
+fn put_if(text: &mut Vec<u8>, number: Option<u64>) -> Result<(), NoMemory>
+    ensures { OnOk result (text.new.items ≡ text.old.items ++ numbers_text (option_to_list number)) }
+{
+    match number {
+        Some(number) => put_json_numbers(text, &[number as usize]),
+        None => put_json_numbers(text, &[]),
+    }
+}
+
+/// Puts how many sends a stream had last, and how many are complete.
+#[tactic(auto, unfolding(crate::specs::Data::counts_text))]
+fn put_counts(text: &mut Vec<u8>, row: &StreamRow) -> Result<(), NoMemory>
+    ensures { OnOk result (text.new.items ≡ text.old.items ++ counts_text row.now) }
+{
+    put(text, "[")?;
+    put_number(text, row.sends as u64)?;
+    put(text, ",")?;
+    put_number(text, row.complete as u64)
+}
+
+/// Puts the longest that a send of a stream took last, and who missed one.
+#[tactic(auto, unfolding(crate::specs::Data::notes_text))]
+fn put_notes(text: &mut Vec<u8>, row: &StreamRow) -> Result<(), NoMemory>
+    ensures { OnOk result (text.new.items ≡ text.old.items ++ notes_text row.now) }
+{
+    put(text, ",")?;
+    put_if(text, row.latency)?;
+    put(text, ",")?;
+    put_json_numbers(text, row.missing.as_slice())?;
+    put(text, "],")
+}
+
 /// Puts what came of a stream last.
 fn put_stream(text: &mut Vec<u8>, row: &StreamRow) -> Result<(), NoMemory>
     ensures { OnOk result (text.new.items ≡ text.old.items ++ stream_row row.now) }
 {
-    put_row(text, &[row.sends, row.complete])
+    put_counts(text, row)?;
+    put_notes(text, row)
 }
 
 /// Puts what a fault cuts off last.
+#[tactic(auto, unfolding(crate::specs::Data::outage_row))]
 fn put_outage(text: &mut Vec<u8>, row: &OutageRow) -> Result<(), NoMemory>
     ensures { OnOk result (text.new.items ≡ text.old.items ++ outage_row row.now) }
 {
-    put_row(text, &[row.sends])
+    put(text, "[")?;
+    put_number(text, row.sends as u64)?;
+    put(text, ",")?;
+    put_json_numbers(text, row.missed.as_slice())?;
+    put(text, "],")
 }
 
 /// Puts what came of a run last.

@@ -1,12 +1,13 @@
 -- Rows of a page, one after another.
-use Rattle.std.proofs.Common.{◌≡◌, ℕ, ◌+◌, List, slice_index_or, sym, subst, ap, ◌∙◌}
+use Rattle.std.proofs.Common.{◌≡◌, ℕ, ◌+◌, List, slice_index_or, sym, subst}
 use Rattle.hsr_faults.specs.Sweep.{Swept}
 use Rattle.hsr_faults.specs.declared.fault.Fault.{Fault}
 use Rattle.hsr_faults.proofs.Pushed.{each_more, length_more}
+use Rattle.hsr_naming.specs.declared.naming.Naming.{Naming}
 use Rattle.hsr_plan_page.specs.declared.facts.CaseRow.{CaseRow}
 use Rattle.hsr_plan_page.specs.declared.facts.OutageRow.{OutageRow}
 use Rattle.hsr_plan_sweep.specs.declared.playing.Played.{Played}
-use Rattle.hsr_plan_report.specs.Cases.{AddsRow as AddsCase, AreCaseRows, counts_of}
+use Rattle.hsr_plan_report.specs.Cases.{AddsRow as AddsCase, AreCaseRows, IsCaseRow}
 use Rattle.hsr_plan_report.specs.Outages.{AddsRow, AreOutageRows, IsOutageRow}
 
 pub outages_more : (swept : Swept) (faults : List Fault) (n : ℕ) (fault : Fault) (rows after : List OutageRow) → ((d : Fault) → slice_index_or faults n d ≡ fault)
@@ -19,11 +20,11 @@ outages_more swept faults n fault rows after at (row, is, same) are =
       each = λ i d o low. each_more P rows after row n same are.many (λ k o inside f. are.each k f o inside) one i o low d;
     }
 
-pub cases_more : (plays : List Played) (n : ℕ) (played : Played) (rows after : List CaseRow) → ((d : Played) → slice_index_or plays n d ≡ played)
-    → AddsCase played rows after → AreCaseRows plays n rows → AreCaseRows plays (n + 1) after
-cases_more plays n played rows after at (row, is, same) are =
-    let P : ℕ → CaseRow → Type 0 = λ i it. (d : Played) → it.counts ≡ counts_of (slice_index_or plays i d).count in
-    let one : P n row = λ d. is ∙ ap (λ (p : Played). counts_of p.count) (sym (at d)) in
+pub cases_more : (naming : Naming) (plays : List Played) (n : ℕ) (played : Played) (rows after : List CaseRow) → ((d : Played) → slice_index_or plays n d ≡ played)
+    → AddsCase naming played rows after → AreCaseRows naming plays n rows → AreCaseRows naming plays (n + 1) after
+cases_more naming plays n played rows after at (row, is, same) are =
+    let P : ℕ → CaseRow → Type 0 = λ i it. (d : Played) → IsCaseRow naming (slice_index_or plays i d) it in
+    let one : P n row = λ d. subst (λ p. IsCaseRow naming p row) (sym (at d)) is in
     record {
       many = length_more rows after row n same are.many;
       each = λ i d o low. each_more P rows after row n same are.many (λ k o inside f. are.each k f o inside) one i o low d;

@@ -1,11 +1,10 @@
--- Sends, counted one after another, and rows that tell how many there are.
-use Rattle.std.proofs.Common.{◌≡◌, ℕ, zero, suc, ◌+◌, ◌-◌, ◌<◌, ◌≤◌, ◌^◌, ◌&&◌, Bool, true, false, List, [], ◌∷◌, ◌++◌, length, take, get_or, ◌⊎◌, inl, inr, refl, sym, ap, subst, ◌∙◌, arith, Option, Some, None}
-use Rattle.std.specs.Prelude.{nat_eq, option_to_list, slice_get, IfSome}
-use Rattle.std.proofs.lemmas.List.{append-nil, take_more}
+-- Sends, counted one after another.
+use Rattle.std.proofs.Common.{◌≡◌, ℕ, zero, suc, ◌+◌, ◌-◌, ◌<◌, ◌≤◌, ◌^◌, ◌&&◌, Bool, true, false, List, [], ◌∷◌, ◌++◌, length, take, get_or, refl, sym, ap, ◌∙◌, arith, Option, Some}
+use Rattle.std.specs.Prelude.{nat_eq, slice_get}
+use Rattle.std.proofs.lemmas.List.{take_more}
 use Rattle.std.proofs.lemmas.Option.{get_or_from_slice_get, same_Some, slice_get-get_or, slice_get_within}
 use Rattle.hsr_plan_sweep.specs.Counting.{is_complete, stream_if}
-use Rattle.hsr_plan_page.specs.declared.facts.StreamRow.{StreamRow}
-use Rattle.hsr_plan_report.specs.Streams.{AreSent, AreStreamRows, Counts, HasSent, HaveSent, complete_at, counts_at, one_if, row_of, sends_at, sent_if, tallied}
+use Rattle.hsr_plan_report.specs.Streams.{AreSent, Counts, complete_at, counts_at, one_if, row_of, sends_at, sent_if, tallied}
 use Rattle.hsr_plan_sweep.specs.declared.counting.Outcome.{Outcome}
 use Rattle.hsr_plan_report.specs.declared.sent.Sent.{Sent}
 
@@ -88,37 +87,3 @@ sent_more streams last i row os o complete old new here few row_is complete_is c
         let some = tallied_most is_complete streams last k 0 (take i os) in
         let most = taken_most os i in
         one_more (nat_eq row k) complete before _ _ (are k before was).0 (are k before was).1 (omega (arith, all, most, few)) (omega (arith, some, most, few))
-
--- ---- rows
-
-pushed : {X : Type 0} (xs : List X) (y x : X) (k : ℕ) → slice_get (xs ++ y ∷ []) k ≡ Some x → (slice_get xs k ≡ Some x) ⊎ ((k ≡ length xs) × (x ≡ y))
-pushed [] y x zero at_k = inr (refl, sym (same_Some y x at_k))
-pushed [] y x (suc k) at_k = absurd cc
-pushed (z ∷ xs) y x zero at_k = inl at_k
-pushed (z ∷ xs) y x (suc k) at_k = by_place (pushed xs y x k at_k)
-  where
-    by_place : (slice_get xs k ≡ Some x) ⊎ ((k ≡ length xs) × (x ≡ y)) → (slice_get (z ∷ xs) (suc k) ≡ Some x) ⊎ ((suc k ≡ length (z ∷ xs)) × (x ≡ y))
-    by_place (inl old) = inl old
-    by_place (inr new) = inr (ap suc new.0, new.1)
-
--- one row more
-pub have_more : (sent : List Sent) (rows : List StreamRow) (k : ℕ) (s : Sent) (row : StreamRow) → length rows ≡ k → slice_get sent k ≡ Some s → HasSent s row → HaveSent sent rows
-    → HaveSent sent (rows ++ row ∷ [])
-have_more sent rows k s row long here has have n own at_n = by_place (pushed rows row own n at_n)
-  where
-    by_place : (slice_get rows n ≡ Some own) ⊎ ((n ≡ length rows) × (own ≡ row)) → (t : Sent) × (slice_get sent n ≡ Some t) × HasSent t own
-    by_place (inl old) = have n own old
-    by_place (inr new) = (s, ap (slice_get sent) (new.0 ∙ long) ∙ here, subst (HasSent s) (sym new.1) has)
-
--- and perhaps another one
-pub have_last : (sent : List Sent) (rows : List StreamRow) (k : ℕ) (s : Sent) (row : Option StreamRow) → length rows ≡ k → slice_get sent k ≡ Some s → IfSome row (HasSent s) → HaveSent sent rows
-    → HaveSent sent (rows ++ option_to_list row)
-have_last sent rows k s None long here has have = subst (HaveSent sent) (sym (append-nil rows)) have
-have_last sent rows k s (Some row) long here has have = have_more sent rows k s row long here has have
-
-pub rows_sent : (streams : List (Option ℕ)) (last : ℕ) (outcomes : List Outcome) (sent : List Sent) (rows : List StreamRow) → AreSent streams last outcomes sent → HaveSent sent rows
-    → AreStreamRows streams last outcomes rows
-rows_sent streams last outcomes sent rows are have k row at_k =
-    let own = have k row at_k in
-    let told = are k own.0 own.1 in
-    (own.2.0 ∙ told.0, own.2.1 ∙ told.1)

@@ -9,7 +9,7 @@ use Rattle.hsr_plan_scenario.specs.Ends.{TellsFault, TellsInput, TellsWhy}
 use Rattle.hsr_plan_scenario.specs.declared.planning.Ending.{Ending}
 use Rattle.hsr_plan_scenario.specs.declared.planning.Ending.TheVariants.{Planned, Doubted, Refused, Failed, Unwritten}
 use Rattle.hsr_plan_scenario.proofs.Whole.{longer, no_plan}
-use Rattle.hsr_plan_sweep.specs.Swept.{IsPlayedPlan}
+use Rattle.hsr_plan_sweep.specs.Swept.{IsNamingOf, IsPlayedPlan}
 use Rattle.hsr_plan_sweep.specs.Variants.{bared, bared_if, plan_in}
 use Rattle.hsr_plan_sweep.specs.declared.asked.Asked.{Asked as SweepAsked}
 use Rattle.hsr_plan_sweep.specs.declared.sweeping.SweptPlan.{SweptPlan}
@@ -24,8 +24,9 @@ use Rattle.hsr_plan_report.specs.declared.gathered.Swept.{Swept}
 pub swept_so : (plan : Plan) (asked : SweepAsked) (played : SweptPlan) (swept : Swept) → IsPlayedPlan plan asked played.meaning played.plays.items → IsSweep played swept → IsSweepOf plan asked swept
 swept_so plan asked played swept is sweep =
     let P : SweptPlan → Type 0 = λ p. IsPlayedPlan plan asked p.meaning p.plays.items in
-    let Q : SweptPlan → Type 0 = λ p. AreCaseRows p.plays.items (length p.plays.items) swept.rows.items in
-    record { played = subst P (sym sweep.same) is; rows = subst Q (sym sweep.same) sweep.rows }
+    let N : SweptPlan → Type 0 = λ p. IsNamingOf p.meaning.nodes sweep.naming in
+    let Q : SweptPlan → Type 0 = λ p. AreCaseRows sweep.naming p.plays.items (length p.plays.items) swept.rows.items in
+    record { played = subst P (sym sweep.same) is; naming = sweep.naming; is_naming = subst N (sym sweep.same) sweep.is_naming; rows = subst Q (sym sweep.same) sweep.rows }
 
 -- a plan that is read without its events is the plan without them
 bare_said : (said : Result Plan PlanFault) (plan bare : Plan) → bared_if false said ≡ Ok plan → bared_if true said ≡ Ok bare → bared true plan ≡ bare

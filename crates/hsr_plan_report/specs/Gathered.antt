@@ -11,7 +11,8 @@ use Rattle.hsr_plan_schedule.specs.Meaning.{Meaning, Means}
 use Rattle.hsr_plan_scenario.specs.Refusals.{MeansNothing}
 use Rattle.hsr_plan_page.specs.declared.facts.OutageRow.{OutageRow}
 use Rattle.hsr_plan_sweep.specs.Refusals.{IsUnswept}
-use Rattle.hsr_plan_sweep.specs.Swept.{IsPlayedPlan}
+use Rattle.hsr_naming.specs.declared.naming.Naming.{Naming}
+use Rattle.hsr_plan_sweep.specs.Swept.{IsNamingOf, IsPlayedPlan}
 use Rattle.hsr_plan_sweep.specs.declared.asked.Asked.{Asked as SweepAsked}
 use Rattle.hsr_plan_sweep.specs.declared.sweeping.SweptPlan.{SweptPlan}
 use Rattle.hsr_plan_report.specs.Cases.{AreCaseRows}
@@ -28,11 +29,15 @@ asked_with asked without_events = record { at = asked.at; without_events = witho
 -- each run that was played has its row
 pub record IsSweep (played : SweptPlan) (swept : Swept) : Type 0 where
   pub same : swept.played ≡ played
-  pub rows : AreCaseRows played.plays.items (length played.plays.items) swept.rows.items
+  pub naming : Naming
+  pub is_naming : IsNamingOf played.meaning.nodes naming
+  pub rows : AreCaseRows naming played.plays.items (length played.plays.items) swept.rows.items
 
 pub record IsSweepOf (plan : Plan) (asked : SweepAsked) (swept : Swept) : Type 0 where
   pub played : IsPlayedPlan plan asked swept.played.meaning swept.played.plays.items
-  pub rows : AreCaseRows swept.played.plays.items (length swept.played.plays.items) swept.rows.items
+  pub naming : Naming
+  pub is_naming : IsNamingOf swept.played.meaning.nodes naming
+  pub rows : AreCaseRows naming swept.played.plays.items (length swept.played.plays.items) swept.rows.items
 
 -- ---- faults
 

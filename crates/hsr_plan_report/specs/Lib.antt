@@ -1,6 +1,9 @@
 pub mod Outages
 pub mod Cases
 pub mod Streams
+pub mod Missing
+pub mod StreamRows
 pub mod Own
 pub mod Gathered
 pub mod Report
+pub mod Paper

@@ -12,16 +12,20 @@ use Rattle.hsr_plan_text.specs.Plan.{Plan}
 use Rattle.hsr_plan_schedule.specs.Meaning.{Meaning}
 use Rattle.hsr_plan_hops.specs.Moving.{MeansMoved}
 use Rattle.hsr_plan_certify.specs.Verdicts.{IsCertification}
-use Rattle.hsr_deliveries.specs.Delivered.{deliveries}
 use Rattle.hsr_plan_page.specs.declared.facts.StreamRow.{StreamRow}
-use Rattle.hsr_plan_sweep.specs.Counting.{outcomes}
 use Rattle.hsr_plan_sweep.specs.Runs.{IsCountedOf, audience}
 use Rattle.hsr_plan_sweep.specs.Sendings.{streams_by}
 use Rattle.hsr_plan_sweep.specs.declared.counting.Count.{Count}
+use Rattle.hsr_naming.specs.declared.names.Names.{Names}
+use Rattle.hsr_naming.specs.declared.naming.Naming.{Naming}
+use Rattle.hsr_naming.specs.declared.naming.Naming.TheVariants as naming
+use Rattle.hsr_run_names.specs.Naming.{AreNamesOf}
+use Rattle.hsr_plan_scenario.specs.Says.{names_meant_by}
+use Rattle.hsr_report.specs.Report.{finding_line, spending_text}
 use Rattle.hsr_report.specs.declared.finding.Finding.{Finding}
 use Rattle.hsr_report.specs.declared.finding.Finding.TheVariants.{Certified, Doubt}
 use Rattle.hsr_plan_report.specs.Cases.{tally_of}
-use Rattle.hsr_plan_report.specs.Streams.{AreStreamRows}
+use Rattle.hsr_plan_report.specs.StreamRows.{AreStreamRows}
 use Rattle.hsr_plan_report.specs.declared.own.Own.{Own}
 use Rattle.hsr_plan_report.specs.declared.own.OwnRun.{OwnRun}
 
@@ -38,9 +42,13 @@ IsRunOfMeaning plan m run count = IsCountedOf plan m run count
 
 -- what came of each stream, and behind all of supervision
 abbrev pub AreStreamsOf : Plan → Meaning → Run → List StreamRow → Type 0
-AreStreamsOf plan m run rows = AreStreamRows (streams_in m run) (length plan.streams) (outcomes (audience plan m) (streams_in m run) 0 (deliveries run)) rows
+AreStreamsOf plan m run rows = AreStreamRows (record { audience = audience plan m; run = run; streams = streams_in m run }) (length plan.streams) rows
 
--- its numbers, streams, loads and latencies are those of the run
+-- nodes and sends are called by the names that are meant, as `hsr_plan run --names` calls them
+abbrev pub IsCalled : Meaning → Run → Naming → Type 0
+IsCalled m run called = (names : Names) × AreNamesOf run (names_meant_by m).names (names_meant_by m).streams names × (called ≡ naming.Names names)
+
+-- its numbers, streams, loads, latencies and lines are those of the run
 pub record IsOwnRun (plan : Plan) (m : Meaning) (run : Run) (own : OwnRun) : Type 0 where
   pub count : Count
   pub counted : IsRunOfMeaning plan m run count
@@ -49,6 +57,9 @@ pub record IsOwnRun (plan : Plan) (m : Meaning) (run : Run) (own : OwnRun) : Typ
   pub loads : AreLoadsOf run own.load.channels.items
   pub latencies : own.latency.nodes.items ≡ latencies run
   pub certified : own.is_certified ≡ is_certain count.finding
+  pub called : IsCalled m run own.naming
+  pub found : own.found.items ≡ finding_line own.naming count.finding
+  pub budget : own.budget.items ≡ spending_text own.naming count.spending
 
 pub record IsOwn (plan : Plan) (m : Meaning) (own : OwnRun) : Type 0 where
   pub run : Finished

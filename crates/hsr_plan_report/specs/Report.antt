@@ -3,12 +3,18 @@
 --     is_doubtful   it tells a doubt
 --     IsReport      the page of the plan that octets say, and how a run ends that writes it
 --     ReportEnds    how a run over a plan ends that writes its page, what it wrote, and what it told
-use Rattle.std.specs.Prelude.{ℕ, ◌≡◌, ◌⊎◌, ⊤, ◌&&◌, ◌||◌, not, Bool, true, false, List, [], Option, Some, None, Result, Ok, Err}
+use Rattle.std.specs.Prelude.{ℕ, ◌≡◌, ◌*◌, ◌-◌, ◌^◌, ◌⊎◌, ⊤, min, ◌&&◌, ◌||◌, not, Bool, true, false, List, [], length, Option, Some, None, Result, Ok, Err}
 use Rattle.std.specs.Io.KnownBytes.{Appends, Keeps}
-use Rattle.std.specs.Str.{IsUtf8}
+use Rattle.std.specs.Str.{IsTrimAsciiEnd, IsUtf8}
+use Rattle.std.specs.Str.Lossy.{utf8_lossy}
+use Rattle.hex.specs.Hex.{encode_lower}
+use Rattle.sha2.specs.Sha256.{sha256}
 use Rattle.hsr_certify_text.specs.declared.verdict.Verdict.{Verdict}
 use Rattle.hsr_certify_text.specs.declared.verdict.Verdict.TheVariants.{Certified, Doubted as IsDoubted}
 use Rattle.hsr_plan_text.specs.Plan.{Plan}
+use Rattle.hsr_plan_text.specs.declared.plan.Moves.{Moves}
+use Rattle.hsr_plan_text.specs.declared.plan.Moves.TheVariants.{Timed}
+use Rattle.hsr_plan_text.specs.declared.plan.Transfer.TheVariants as transfer
 use Rattle.hsr_plan_text.specs.declared.fault.PlanFault.{PlanFault}
 use Rattle.hsr_plan_scenario.specs.Ends.{TellsFault, TellsInput}
 use Rattle.hsr_plan_scenario.specs.Runs.{IsUnrunOf}
@@ -38,10 +44,42 @@ rows_if (Some swept) = swept.rows.items
 abbrev pub bare_rows : Bare → List CaseRow
 bare_rows bare = rows_if bare.swept
 
--- its numbers are those that were gathered
-pub record IsPageOf (own : Own) (swept : Swept) (bare : Bare) (page : List ℕ) : Type 0 where
+abbrev pub is_certified : Verdict → Bool
+is_certified (Certified sends) = true
+is_certified (IsDoubted doubt) = false
+
+-- a line without its end, as a page shows it; what were no UTF-8 would be replaced
+pub record IsShown (line text : List ℕ) : Type 0 where
+  pub trimmed : List ℕ
+  pub ends : IsTrimAsciiEnd line trimmed
+  pub is : text ≡ utf8_lossy trimmed
+
+-- what a direction of a link carries, in kbit/s: as the plan says of its wires, else 100 Mbit/s
+abbrev pub rate_of : Moves → ℕ
+rate_of (Timed (transfer.Wire wire)) = min (wire.rate * 1000) (2 ^ 64 - 1)
+rate_of _ = 100000
+
+-- its sum is that of the plan's text, in hexadecimal digits
+abbrev pub sum_of : List ℕ → List ℕ
+sum_of text = encode_lower (sha256 text)
+
+-- its numbers and lines are those that were gathered, and what was asked
+pub record IsPageOf (text : List ℕ) (plan : Plan) (asked : Asked) (own : Own) (swept : Swept) (bare : Bare) (page : List ℕ) : Type 0 where
   pub facts : Facts
   pub is : IsPlanPage facts page
+  pub octets : facts.octets ≡ length text
+  pub sum : facts.sum.now ≡ sum_of text
+  pub within : facts.within ≡ asked.within
+  pub at : facts.at ≡ asked.at
+  pub limit_load : facts.limit_load ≡ asked.limit_load
+  pub limit_latency : facts.limit_latency ≡ asked.limit_latency
+  pub rate : facts.rate ≡ rate_of plan.outline.moves
+  pub any_order : IsShown own.certification.line.items facts.in_any_order.line.now
+  pub certified : facts.in_any_order.is_certified ≡ is_certified own.certification.verdict
+  pub in_run : IsShown own.run.found.items facts.in_run.line.now
+  pub certain : facts.in_run.is_certified ≡ own.run.is_certified
+  pub budget : IsShown own.run.budget.items facts.budget.now
+  pub table : facts.table ≡ 512
   pub tally : facts.tally ≡ own.run.tally
   pub streams : facts.streams.now ≡ own.run.streams.items
   pub loads : facts.loads.now ≡ own.run.load.channels.items
@@ -51,10 +89,6 @@ pub record IsPageOf (own : Own) (swept : Swept) (bare : Bare) (page : List ℕ) 
   pub bare_cases : facts.bare_cases.now ≡ bare_rows bare
 
 -- ---- doubts
-
-abbrev pub is_certified : Verdict → Bool
-is_certified (Certified sends) = true
-is_certified (IsDoubted doubt) = false
 
 abbrev pub played_if : List Played → Option Swept → List Played
 played_if plays None = plays
@@ -77,7 +111,7 @@ pub record IsReportOf (text : List ℕ) (plan : Plan) (asked : Asked) (page : Li
   pub is_swept : IsSweepOf plan (asked_with asked false) swept
   pub bare : Bare
   pub is_bare : IsBareOf (bared true plan) asked bare
-  pub is_page : IsPageOf own swept bare page
+  pub is_page : IsPageOf text plan asked own swept bare page
   pub ends : ending ≡ ending_of (is_doubtful asked own swept bare)
 
 -- octets are a text, and this is the page of what it says as a plan

@@ -1,8 +1,6 @@
--- What came of each stream, as rows of a page.
---     tallied         how many sends pass a test, of those that count at a row
---     AreStreamRows   each row tells how many sends its stream had, and how many of these are complete
+-- How many sends each stream had, and how many of them are complete.
+--     tallied   how many sends pass a test, of those that count at a row
 use Rattle.std.specs.Prelude.{ℕ, ◌≡◌, ◌+◌, ◌-◌, ◌^◌, ◌==◌, ◌&&◌, min, Bool, true, if◌then◌else◌, List, [], ◌∷◌, length, slice_get, Option, Some, None}
-use Rattle.hsr_plan_page.specs.declared.facts.StreamRow.{StreamRow}
 use Rattle.hsr_plan_sweep.specs.Counting.{is_complete, stream_if}
 use Rattle.hsr_plan_sweep.specs.declared.counting.Outcome.{Outcome}
 use Rattle.hsr_plan_report.specs.declared.sent.Sent.{Sent}
@@ -30,10 +28,6 @@ sends_at streams last outcomes k = tallied (λ o. true) streams last k 0 outcome
 abbrev pub complete_at : List (Option ℕ) → ℕ → List Outcome → ℕ → ℕ
 complete_at streams last outcomes k = tallied is_complete streams last k 0 outcomes
 
-abbrev pub AreStreamRows : List (Option ℕ) → ℕ → List Outcome → List StreamRow → Type 0
-AreStreamRows streams last outcomes rows = (k : ℕ) (row : StreamRow) → slice_get rows k ≡ Some row
-    → (row.sends ≡ sends_at streams last outcomes k) × (row.complete ≡ complete_at streams last outcomes k)
-
 -- ---- how they are counted
 
 abbrev pub with_send : Sent → Bool → Sent
@@ -50,10 +44,3 @@ pub record Counts (row : ℕ) (complete : Bool) (old new : List Sent) : Type 0 w
 abbrev pub AreSent : List (Option ℕ) → ℕ → List Outcome → List Sent → Type 0
 AreSent streams last outcomes sent = (k : ℕ) (s : Sent) → slice_get sent k ≡ Some s
     → (s.sends ≡ sends_at streams last outcomes k) × (s.complete ≡ complete_at streams last outcomes k)
-
--- a row with these numbers
-abbrev pub HasSent : Sent → StreamRow → Type 0
-HasSent sent row = (row.sends ≡ sent.sends) × (row.complete ≡ sent.complete)
-
-abbrev pub HaveSent : List Sent → List StreamRow → Type 0
-HaveSent sent rows = (k : ℕ) (row : StreamRow) → slice_get rows k ≡ Some row → (s : Sent) × (slice_get sent k ≡ Some s) × HasSent s row

@@ -1,6 +1,8 @@
 //! What came of each run of a sweep, as rows of a page.
 ghost use Rattle.std.specs.Prelude.{◌≡◌, length, IfOk, OnOk};
-ghost use Rattle.hsr_plan_report.specs.Cases.{AddsRow, AreCaseRows, counts_of, tally_of};
+ghost use Rattle.std.specs.Str.{IsTrimAsciiEnd};
+ghost use Rattle.hsr_plan_report.specs.Cases.{AddsRow, AreCaseRows, IsCaseRow, counts_of, tally_of};
+ghost use Rattle.hsr_plan_sweep.specs.Lines.{found_text};
 
 use crate::outages::off_in;
 use hsr_frame::NoMemory;
@@ -58,10 +60,12 @@ fn put_off(
 }
 
 /// What was found of a run, without a line feed.
-fn found_of(alloc: Global, naming: &Naming, count: &Count) -> Result<Vec<u8>, NoMemory> {
-    let mut text = Vec::new(alloc);
-    put_found(&mut text, naming, count)?;
-    let _ = text.pop();
+fn found_of(alloc: Global, naming: &Naming, count: &Count) -> Result<Vec<u8>, NoMemory>
+    ensures { IfOk result (λ text. IsTrimAsciiEnd (found_text naming.now count.now) text.items) }
+{
+    let mut line = Vec::new(alloc);
+    put_found(&mut line, naming, count)?;
+    let text = Vec::from_slice(alloc, line.as_slice().trim_ascii_end())?;
     Ok(text)
 }
 
@@ -73,7 +77,7 @@ fn row_of(
     naming: &Naming,
     played: &Played,
 ) -> Result<CaseRow, NoMemory>
-    ensures { IfOk result (λ row. row.counts ≡ counts_of played.now.count) }
+    ensures { IfOk result (IsCaseRow naming.now played.now) }
 {
     let mut off = Vec::new(alloc);
     let (link, node) = put_off(&mut off, nodes, links, played.case)?;
@@ -99,7 +103,7 @@ fn push_row(
     naming: &Naming,
     played: &Played,
 ) -> Result<(), NoMemory>
-    ensures { OnOk result (AddsRow played.now rows.old.items rows.new.items) }
+    ensures { OnOk result (AddsRow naming.now played.now rows.old.items rows.new.items) }
 {
     let row = row_of(alloc, nodes, links, naming, played)?;
     rows.push(row)?;
@@ -114,7 +118,7 @@ pub(crate) fn case_rows(
     naming: &Naming,
     plays: &[Played],
 ) -> Result<Vec<CaseRow>, NoMemory>
-    ensures { IfOk result (λ rows. AreCaseRows plays.now (length plays.now) rows.items) }
+    ensures { IfOk result (λ rows. AreCaseRows naming.now plays.now (length plays.now) rows.items) }
 {
     let mut rows = Vec::new(alloc);
     for played in plays {

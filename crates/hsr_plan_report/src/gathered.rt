@@ -10,12 +10,10 @@ use crate::cases::case_rows;
 use crate::outages::outage_rows;
 use hsr_certify_text::make_coarse;
 use hsr_frame::NoMemory;
-use hsr_naming::{Names, Naming};
-use hsr_plan_network::Node;
 use hsr_plan_page::{CaseRow, OutageRow};
-use hsr_plan_scenario::{Line, Trouble, line_of, node_names};
+use hsr_plan_scenario::{Line, Trouble, line_of};
 use hsr_plan_schedule::{Meaning, meaning_of};
-use hsr_plan_sweep::{Asked as SweepAsked, SweptPlan, play_plan, read_plan};
+use hsr_plan_sweep::{Asked as SweepAsked, SweptPlan, naming_of, play_plan};
 use hsr_plan_text::Plan;
 use std::alloc::Global;
 use std::io::Write;
@@ -41,13 +39,6 @@ pub(crate) fn asked_with(asked: Asked<'_>, without_events: bool) -> SweepAsked
 pub(crate) struct Swept {
     pub(crate) played: SweptPlan,
     pub(crate) rows: Vec<CaseRow>,
-}
-
-/// What calls nodes by their names, and entries by their numbers, as sweeps do.
-fn naming_of(alloc: Global, nodes: &[Node]) -> Result<Naming, NoMemory> {
-    let nodes = node_names(alloc, nodes)?;
-    let entries = Vec::new(alloc);
-    Ok(Naming::Names(Names { nodes, entries }))
 }
 
 /// The sweep that was played, with its rows.

@@ -5,6 +5,7 @@
 //! - `reasons`: what a verdict in any order means, in a sentence
 //! - `words`: streams, events and moves of a plan in words
 //! - `sent`: how many sends each stream had
+//! - `missing`: which nodes need a stream and missed a send of it
 //! - `streams`: what came of each stream
 //! - `outages`: what each link and each node that is off cuts off
 //! - `cases`: what came of each run of a sweep
@@ -17,6 +18,7 @@
 mod asked;
 mod cases;
 mod gathered;
+mod missing;
 mod outages;
 mod own;
 mod paper;

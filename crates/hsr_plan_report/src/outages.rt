@@ -1,7 +1,7 @@
 //! What each link and each node that is off from the start cuts off.
-ghost use Rattle.std.specs.Prelude.{◌≡◌, length, IfOk, OnOk};
+ghost use Rattle.std.specs.Prelude.{◌≡◌, ◌<◌, ◌≤◌, ◌-◌, ◌^◌, min, length, IfOk, OnOk};
 ghost use Rattle.hsr_routes.specs.Routes.{bare};
-ghost use Rattle.hsr_plan_report.specs.Outages.{AddsRow, AreOutageRows, all_faults};
+ghost use Rattle.hsr_plan_report.specs.Outages.{AddsRow, AreOutageRows, all_faults, missed_of, sends_from};
 
 use hsr_faults::{Cut, Fault, Off, Outage, Sweep, faults_of_one};
 use hsr_frame::NoMemory;
@@ -51,18 +51,24 @@ fn cuts_of(alloc: Global, nodes: &[Node], cuts: &[Cut]) -> Result<Vec<u8>, NoMem
 }
 
 /// How many sends are cut off from a node.
-fn missed_by(cuts: &[Cut], node: usize) -> usize {
+fn missed_by(cuts: &[Cut], node: usize) -> usize
+    requires { node < 64 }
+    ensures { result ≡ min (sends_from node cuts.now) (2 ^ 64 - 1) }
+{
     let mut missed = 0usize;
     for cut in cuts {
-        if node < 64 && cut.nodes.has(node) {
+        if cut.nodes.has(node) {
             missed = missed.saturating_add(cut.sends);
         }
     }
     missed
 }
 
-/// How many sends are cut off from each node.
-fn missed_of(alloc: Global, nodes: usize, cuts: &[Cut]) -> Result<Vec<usize>, NoMemory> {
+/// How many sends are cut off from each of so many nodes.
+fn missed_of(alloc: Global, nodes: usize, cuts: &[Cut]) -> Result<Vec<usize>, NoMemory>
+    requires { nodes ≤ 64 }
+    ensures { IfOk result (λ missed. missed.items ≡ missed_of nodes cuts.now) }
+{
     let mut missed = Vec::new(alloc);
     for node in 0..nodes {
         missed.push(missed_by(cuts, node))?;
@@ -86,7 +92,9 @@ fn row_of(
     topology: &Topology,
     outage: &Outage,
 ) -> Result<OutageRow, NoMemory>
-    ensures { IfOk result (λ row. row.sends ≡ outage.now.sends) }
+    ensures sends { IfOk result (λ row. row.sends ≡ outage.now.sends) }
+    ensures missed { IfOk result (λ row. row.missed.items
+        ≡ missed_of (length topology.now.places) outage.now.cuts.items) }
 {
     let mut off = Vec::new(alloc);
     put_fault(&mut off, nodes, topology.links(), outage.fault)?;
@@ -97,7 +105,7 @@ fn row_of(
         link,
         node,
         sends: outage.sends,
-        missed: missed_of(alloc, nodes.len(), cuts)?,
+        missed: missed_of(alloc, topology.places().len(), cuts)?,
         cuts: cuts_of(alloc, nodes, cuts)?,
     })
 }
@@ -111,6 +119,7 @@ fn push_row(
     sweep: &Sweep<'_>,
     fault: Fault,
 ) -> Result<(), NoMemory>
+    requires { topology.now.places ≡ sweep.now.net.places }
     ensures { OnOk result (AddsRow sweep.now fault rows.old.items rows.new.items) }
 {
     let outage = sweep.outage(alloc, fault)?;
@@ -127,6 +136,7 @@ fn rows_of(
     sweep: &Sweep<'_>,
     faults: &[Fault],
 ) -> Result<Vec<OutageRow>, NoMemory>
+    requires { topology.now.places ≡ sweep.now.net.places }
     ensures { IfOk result (λ rows. AreOutageRows sweep.now faults.now (length faults.now) rows.items) }
 {
     let mut rows = Vec::new(alloc);

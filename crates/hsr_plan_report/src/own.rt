@@ -1,7 +1,8 @@
 //! What the plan's own run comes to, with tables of 512 entries, and the verdict on the plan in any order.
 ghost use Rattle.std.specs.Prelude.{◌≡◌, IfErr, IfOk, IsOk};
 ghost use Rattle.hsr_plan_scenario.specs.Runs.{HasNoRun, IsKnownRun, IsUnrunOf};
-ghost use Rattle.hsr_plan_report.specs.Own.{AreStreamsOf, IsOwn, IsOwnOf, IsOwnRun, IsRunOfMeaning, is_certain};
+ghost use Rattle.hsr_plan_report.specs.Own.{AreStreamsOf, IsCalled, IsOwn, IsOwnOf, IsOwnRun, IsRunOfMeaning, is_certain};
+ghost use Rattle.hsr_report.specs.Report.{finding_line, spending_text};
 ghost use Rattle.hsr_plan_certify.specs.Verdicts.{IsCertification};
 
 use crate::cases::tally_of;
@@ -35,8 +36,8 @@ struct Counted {
     streams: Vec<StreamRow>,
 }
 
-/// What the plan's own run comes to: its numbers; the budget, and what the audit of networks found, in words, with what that means; what came
-/// of each stream; loads and latencies; and what sends are called.
+/// What the plan's own run comes to: its numbers; the budget in words, the line of what the audit of networks found, and what that means; what
+/// came of each stream; loads and latencies; and what sends are called.
 #[derive(Drop)]
 pub(crate) struct OwnRun {
     pub(crate) tally: Tally,
@@ -94,18 +95,21 @@ fn counted_run(
 }
 
 /// What nodes and sends of a run are called.
-fn naming_of(alloc: Global, meaning: &Meaning, closed: &Closed<TABLE>) -> Result<Naming, NoMemory> {
+fn naming_of(alloc: Global, meaning: &Meaning, closed: &Closed<TABLE>) -> Result<Naming, NoMemory>
+    ensures { IfOk result (IsCalled meaning.now closed.now.run) }
+{
     let nodes = node_names(alloc, meaning.nodes.as_slice())?;
     let streams = streams_meant(alloc, meaning)?;
     let names = names_of(alloc, closed, nodes, streams.as_slice())?;
     Ok(Naming::Names(names))
 }
 
-/// What was found of a run, without a line feed.
-fn found_text(alloc: Global, naming: &Naming, finding: Finding) -> Result<Vec<u8>, NoMemory> {
+/// The line of what was found of a run.
+fn found_line(alloc: Global, naming: &Naming, finding: Finding) -> Result<Vec<u8>, NoMemory>
+    ensures { IfOk result (λ text. text.items ≡ finding_line naming.now finding) }
+{
     let mut text = Vec::new(alloc);
     put_finding(&mut text, naming, finding)?;
-    let _ = text.pop();
     Ok(text)
 }
 
@@ -120,7 +124,9 @@ fn is_certain(finding: Finding) -> bool
 }
 
 /// What was spent of tables, in words.
-fn budget_text(alloc: Global, naming: &Naming, count: &Count) -> Result<Vec<u8>, NoMemory> {
+fn budget_text(alloc: Global, naming: &Naming, count: &Count) -> Result<Vec<u8>, NoMemory>
+    ensures { IfOk result (λ text. text.items ≡ spending_text naming.now count.now.spending) }
+{
     let mut text = Vec::new(alloc);
     put_spent(&mut text, naming, count.spending)?;
     Ok(text)
@@ -144,7 +150,7 @@ fn own_run(
     Ok(OwnRun {
         tally: tally_of(&count),
         budget: budget_text(alloc, &naming, &count)?,
-        found: found_text(alloc, &naming, count.finding)?,
+        found: found_line(alloc, &naming, count.finding)?,
         is_certified: is_certain(count.finding),
         explained: explanation.lines,
         streams,

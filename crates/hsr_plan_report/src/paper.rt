@@ -1,7 +1,8 @@
 //! The page of what was gathered of a plan, and how a run ends that writes it.
-ghost use Rattle.std.specs.Prelude.{◌≡◌, IfOk};
+ghost use Rattle.std.specs.Prelude.{◌≡◌, string_bytes, IfOk};
 ghost use Rattle.hsr_plan_sweep.specs.Swept.{ending_of};
-ghost use Rattle.hsr_plan_report.specs.Report.{IsPageOf, bare_rows, is_certified, is_doubtful, played_alone};
+ghost use Rattle.hsr_plan_report.specs.Paper.{AreTexts};
+ghost use Rattle.hsr_plan_report.specs.Report.{IsPageOf, IsShown, bare_rows, is_certified, is_doubtful, played_alone, sum_of};
 
 use crate::asked::Asked;
 use crate::gathered::{Bare, Swept, asked_with};
@@ -75,25 +76,37 @@ fn moves_of(alloc: Global, plan: &Plan) -> Result<String, NoMemory> {
 }
 
 /// A line without its line feed, as a text.
-fn line_of(alloc: Global, line: &[u8]) -> Result<String, NoMemory> {
+fn line_of(alloc: Global, line: &[u8]) -> Result<String, NoMemory>
+    ensures { IfOk result (λ text. IsShown line.now (string_bytes text)) }
+{
     let text = String::from_utf8_lossy(alloc, line.trim_ascii_end())?;
     Ok(text)
 }
 
+/// The sum of the plan's text (SHA-256, FIPS 180-4), in hexadecimal digits.
+fn sum_of(alloc: Global, text: &str) -> Result<String, NoMemory>
+    ensures { IfOk result (λ sum. string_bytes sum ≡ sum_of text.now) }
+{
+    let sum = Sha256::digest(text.as_bytes());
+    let digits = hex::encode(alloc, &sum)?;
+    Ok(digits)
+}
+
 /// The texts of a page that are formed for it.
-fn texts_of(alloc: Global, paper: Paper<'_>) -> Result<Texts, NoMemory> {
+fn texts_of(alloc: Global, paper: Paper<'_>) -> Result<Texts, NoMemory>
+    ensures { IfOk result (AreTexts paper.entry.text.now paper.entry.own.now) }
+{
     let plan = paper.plan;
     let own = paper.own;
     let swept = paper.swept;
     let meaning = &swept.played.meaning;
-    let sum = Sha256::digest(paper.text.as_bytes());
     Ok(Texts {
         names: names_of(alloc, meaning.nodes.as_slice())?,
         moves: moves_of(alloc, plan)?,
         any_order: line_of(alloc, own.certification.line.as_slice())?,
         found: line_of(alloc, own.run.found.as_slice())?,
         budget: line_of(alloc, own.run.budget.as_slice())?,
-        sum: hex::encode(alloc, &sum)?,
+        sum: sum_of(alloc, paper.text)?,
         meaning: meaning_of(alloc, own.certification.verdict)?,
         events: events_of(alloc, plan.events.as_slice())?,
     })
@@ -128,7 +141,10 @@ fn title_of<'a>(plan: &'a Plan) -> &'a str {
 }
 
 /// The verdict in any order, as the page shows it.
-fn shown_any<'a>(own: &'a Own, texts: &'a Texts) -> Shown<'a> {
+fn shown_any<'a>(own: &'a Own, texts: &'a Texts) -> Shown<'a>
+    ensures certified { result.is_certified ≡ is_certified own.now.certification.verdict }
+    ensures line { result.line.now ≡ string_bytes texts.now.any_order }
+{
     Shown {
         is_certified: is_certified(own.certification.verdict),
         line: texts.any_order.as_str(),
@@ -137,7 +153,10 @@ fn shown_any<'a>(own: &'a Own, texts: &'a Texts) -> Shown<'a> {
 }
 
 /// What was found of the run, as the page shows it.
-fn shown_run<'a>(own: &'a Own, texts: &'a Texts) -> Shown<'a> {
+fn shown_run<'a>(own: &'a Own, texts: &'a Texts) -> Shown<'a>
+    ensures certified { result.is_certified ≡ own.now.run.is_certified }
+    ensures line { result.line.now ≡ string_bytes texts.now.found }
+{
     Shown {
         is_certified: own.run.is_certified,
         line: texts.found.as_str(),
@@ -152,7 +171,8 @@ fn page_with<'a>(
     texts: &'a Texts,
     names: &'a [&'a str],
 ) -> Result<Vec<u8>, NoMemory>
-    ensures { IfOk result (λ page. IsPageOf paper.entry.own.now paper.entry.swept.now paper.entry.bare.now page.items) }
+    requires { AreTexts paper.text.now paper.own.now texts.now }
+    ensures { IfOk result (λ page. IsPageOf paper.entry.text.now paper.entry.plan.now paper.entry.asked paper.entry.own.now paper.entry.swept.now paper.entry.bare.now page.items) }
 {
     let plan = paper.plan;
     let own = paper.own;
@@ -195,7 +215,7 @@ fn page_with<'a>(
 
 /// The page of what was gathered.
 pub(crate) fn page_of(alloc: Global, paper: Paper<'_>) -> Result<Vec<u8>, NoMemory>
-    ensures { IfOk result (λ page. IsPageOf paper.entry.own.now paper.entry.swept.now paper.entry.bare.now page.items) }
+    ensures { IfOk result (λ page. IsPageOf paper.entry.text.now paper.entry.plan.now paper.entry.asked paper.entry.own.now paper.entry.swept.now paper.entry.bare.now page.items) }
 {
     let texts = texts_of(alloc, paper)?;
     let mut names = Vec::new(alloc);

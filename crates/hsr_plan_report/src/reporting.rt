@@ -21,7 +21,7 @@ use std::thread::Threads;
 
 /// The page of what was gathered, and how a run ends that writes it.
 fn told_of(alloc: Global, paper: Paper<'_>) -> Result<Told, NoMemory>
-    ensures page { IfOk result (λ told. IsPageOf paper.entry.own.now paper.entry.swept.now paper.entry.bare.now told.text.items) }
+    ensures page { IfOk result (λ told. IsPageOf paper.entry.text.now paper.entry.plan.now paper.entry.asked paper.entry.own.now paper.entry.swept.now paper.entry.bare.now told.text.items) }
     ensures ends { IfOk result (λ told. told.ending ≡ ending_of (is_doubtful paper.entry.asked paper.entry.own.now paper.entry.swept.now paper.entry.bare.now)) }
 {
     let text = page_of(alloc, paper)?;

@@ -1,14 +1,18 @@
 //! What came of each stream: of its sends, and of supervision behind all streams.
-ghost use Rattle.std.specs.Prelude.{◌≡◌, ◌+◌, ◌++◌, length, option_to_list, IfOk, IfSome, OnOk};
-ghost use Rattle.hsr_plan_report.specs.Streams.{AreStreamRows, HasSent, HaveSent};
+ghost use Rattle.std.specs.Prelude.{◌≡◌, ◌+◌, ◌<◌, ◌^◌, ◌++◌, length, option_map, option_to_list, IfOk, IfSome, OnOk};
+ghost use Rattle.hsr_deliveries.specs.Delivered.{deliveries};
+ghost use Rattle.hsr_plan_sweep.specs.Counting.{outcomes};
+ghost use Rattle.hsr_plan_report.specs.StreamRows.{AreGathered, AreStreamRows, HasNoted, HaveNoted, IsNoted, members, time_of};
 
+use crate::missing::{missing_of, nodes_of};
 use crate::sent::{Sent, row_of, sent_of};
 use crate::words::{put_stream, put_target, put_words};
-use hsr_deliveries::{Delivery, taken_up};
+use hsr_bitset::Numbers;
+use hsr_deliveries::Delivery;
 use hsr_finished_run::Closed;
 use hsr_frame::NoMemory;
-use hsr_moments::Moments;
-use hsr_node::{Place, Probe};
+use hsr_latency::{Delay, Member, longest_of};
+use hsr_node::Place;
 use hsr_page::put_moment;
 use hsr_plan_network::Node;
 use hsr_plan_page::StreamRow;
@@ -17,7 +21,7 @@ use hsr_plan_text::{Plan, Stream, Word};
 use hsr_text::{put, put_octets};
 use std::alloc::Global;
 
-/// A run, by whom its sends are needed, and of which stream each is, in the order of its deliveries.
+/// A run's sends: by whom they are needed, of which stream each is, in the order of its deliveries, and what became of each.
 #[derive(Clone, Copy)]
 pub(crate) struct Sendings<'a> {
     pub(crate) audience: &'a Audience<'a>,
@@ -26,109 +30,85 @@ pub(crate) struct Sendings<'a> {
     pub(crate) outcomes: &'a [Outcome],
 }
 
-/// What else came of a stream: the nodes that need a send and missed it, and the longest that a send took, in microseconds.
+/// Of each stream, and behind all of supervision: its sends, the nodes that need one and missed it, and the send that took longest.
 #[derive(Drop)]
-struct Note {
+struct Gathered {
+    sent: Vec<Sent>,
+    missing: Vec<Numbers>,
+    longest: Vec<Option<Delay>>,
+}
+
+/// That of one of them, with the nodes as a list, and the longest that a send took, in microseconds.
+#[derive(Drop)]
+struct Noted {
+    sent: Sent,
     missing: Vec<usize>,
     latency: Option<u64>,
 }
 
-/// The row of the send at an index.
-fn row_at(sendings: Sendings<'_>, index: usize, last: usize) -> usize {
-    row_of(last, stream_at(sendings.streams, index))
-}
-
-/// Puts the nodes that need a send and missed it last.
-fn put_missing(
-    missing: &mut Vec<usize>,
-    audience: &Audience<'_>,
-    stream: Option<usize>,
-    delivery: &Delivery,
-) -> Result<(), NoMemory> {
-    for node in &delivery.missed {
-        if audience.needs(stream, delivery.at, *node) {
-            missing.push(*node)?;
-        }
+/// Of which row each send is, of rows up to the last one, that of supervision.
+fn members_of(
+    alloc: Global,
+    streams: &[Option<usize>],
+    deliveries: &[Delivery],
+    last: usize,
+) -> Result<Vec<Member>, NoMemory>
+    ensures { IfOk result (λ list. list.items ≡ members streams.now last 0 deliveries.now) }
+{
+    let mut list = Vec::new(alloc);
+    for (index, delivery) in deliveries.iter().enumerate() {
+        list.push(Member {
+            send: delivery.send,
+            group: row_of(last, stream_at(streams, index)),
+        })?;
     }
-    Ok(())
+    Ok(list)
 }
 
-/// Notes who missed the sends of each stream.
-fn note_missing(sendings: Sendings<'_>, notes: &mut Vec<Note>) -> Result<(), NoMemory> {
-    let last = notes.len().saturating_sub(1);
-    for (index, delivery) in sendings.deliveries.iter().enumerate() {
-        let stream = stream_at(sendings.streams, index);
-        if let Some(note) = notes.get_mut(row_at(sendings, index, last)) {
-            put_missing(&mut note.missing, sendings.audience, stream, delivery)?;
-        }
-    }
-    Ok(())
-}
-
-/// The place of a send among deliveries, which are in the order of nodes and of their records.
-fn index_of(deliveries: &[Delivery], send: Probe) -> usize {
-    deliveries.partition_point(|delivery| {
-        delivery.send.node < send.node
-            || (delivery.send.node == send.node && delivery.send.place < send.place)
-    })
-}
-
-/// Notes how long a send took to where it was taken up.
-fn note_delay(notes: &mut Vec<Note>, row: usize, time: u64) {
-    if let Some(note) = notes.get_mut(row) {
-        note.latency = match note.latency {
-            Some(longest) => Some(longest.max(time)),
-            None => Some(time),
-        };
-    }
-}
-
-/// Notes how long the sends took that a node took up.
-fn note_node<const C: usize>(
-    closed: &Closed<C>,
-    moments: &Moments<'_, C>,
-    sendings: Sendings<'_>,
-    node: usize,
-    notes: &mut Vec<Note>,
-) {
-    let last = notes.len().saturating_sub(1);
-    for (place, entry) in closed.entries_at(node).iter().enumerate() {
-        if let Some(send) = taken_up(entry) {
-            let time = moments
-                .at(Probe { node, place })
-                .saturating_sub(moments.at(send));
-            let index = index_of(sendings.deliveries, send);
-            note_delay(notes, row_at(sendings, index, last), time);
-        }
-    }
-}
-
-/// What else came of each of so many streams, and behind them of supervision.
-fn notes_of<const C: usize>(
+/// What came of each of so many streams, and behind them of supervision.
+fn gather<const C: usize>(
     alloc: Global,
     closed: &Closed<C>,
     sendings: Sendings<'_>,
-    streams: usize,
-) -> Result<Vec<Note>, NoMemory> {
-    let mut notes = Vec::new(alloc);
-    for _ in 0..streams {
-        notes.push(no_note(alloc))?;
-    }
-    notes.push(no_note(alloc))?;
-    note_missing(sendings, &mut notes)?;
-    let moments = Moments::new(alloc, closed)?;
-    for node in 0..closed.topology().places().len() {
-        note_node(closed, &moments, sendings, node, &mut notes);
-    }
-    Ok(notes)
+    last: usize,
+) -> Result<Gathered, NoMemory>
+    requires few { last + 1 < 2 ^ 64 }
+    requires deliveries { sendings.deliveries.now ≡ deliveries closed.now.run }
+    requires outcomes { sendings.outcomes.now ≡ outcomes sendings.audience.now sendings.streams.now 0 (deliveries closed.now.run) }
+    ensures { IfOk result (AreGathered (record { audience = sendings.entry.audience.now; run = closed.now.run; streams = sendings.entry.streams.now }) last) }
+{
+    let streams = sendings.streams;
+    let deliveries = sendings.deliveries;
+    let members = members_of(alloc, streams, deliveries, last)?;
+    Ok(Gathered {
+        sent: sent_of(alloc, streams, sendings.outcomes, last)?,
+        missing: missing_of(alloc, sendings.audience, streams, deliveries, last)?,
+        longest: longest_of(alloc, closed, members.as_slice(), last + 1)?,
+    })
 }
 
-/// Nothing to note.
-fn no_note(alloc: Global) -> Note {
-    Note {
-        missing: Vec::new(alloc),
-        latency: None,
+/// The time that a send took, in microseconds.
+fn time_of(delay: Option<Delay>) -> Option<u64>
+    ensures { result ≡ option_map time_of delay }
+{
+    match delay {
+        Some(delay) => Some(delay.time),
+        None => None,
     }
+}
+
+/// What was gathered at a row, of so many nodes.
+fn noted_at(alloc: Global, all: &Gathered, nodes: usize, row: usize) -> Result<Noted, NoMemory>
+    requires sent { row < length all.now.sent.items }
+    requires missing { row < length all.now.missing.items }
+    requires longest { row < length all.now.longest.items }
+    ensures { IfOk result (IsNoted all.now nodes row) }
+{
+    Ok(Noted {
+        sent: all.sent[row],
+        missing: nodes_of(alloc, &all.missing[row], nodes)?,
+        latency: time_of(all.longest[row]),
+    })
 }
 
 // ---- rows
@@ -148,28 +128,20 @@ fn senders_of(alloc: Global, nodes: &[Node], stream: &Stream) -> Result<Vec<usiz
 }
 
 /// A row without words, with what came of a stream.
-fn row_with(alloc: Global, sent: Sent, note: Option<&Note>) -> Result<StreamRow, NoMemory>
-    ensures { IfOk result (HasSent sent) }
+fn row_with(alloc: Global, noted: Noted) -> StreamRow
+    ensures { HasNoted noted result }
 {
-    let mut row = StreamRow {
+    StreamRow {
         name: Vec::new(alloc),
         from: Vec::new(alloc),
         to: Vec::new(alloc),
         what: Vec::new(alloc),
         senders: Vec::new(alloc),
-        sends: sent.sends,
-        complete: sent.complete,
-        missing: Vec::new(alloc),
-        latency: None,
-    };
-    if let Some(note) = note {
-        let mut missing = Vec::from_slice(alloc, note.missing.as_slice())?;
-        missing.sort_unstable();
-        missing.dedup();
-        row.missing = missing;
-        row.latency = note.latency;
+        sends: noted.sent.sends,
+        complete: noted.sent.complete,
+        missing: noted.missing,
+        latency: noted.latency,
     }
-    Ok(row)
 }
 
 /// The row of a stream, with what came of it.
@@ -178,12 +150,11 @@ fn stream_row(
     nodes: &[Node],
     name: Option<&Word>,
     stream: &Stream,
-    sent: Sent,
-    note: Option<&Note>,
+    noted: Noted,
 ) -> Result<StreamRow, NoMemory>
-    ensures { IfOk result (HasSent sent) }
+    ensures { IfOk result (HasNoted noted) }
 {
-    let mut row = row_with(alloc, sent, note)?;
+    let mut row = row_with(alloc, noted);
     if let Some(name) = name {
         put_octets(&mut row.name, name.as_bytes())?;
     }
@@ -210,15 +181,14 @@ fn life_row(
     alloc: Global,
     nodes: &[Node],
     life: u64,
-    sent: Sent,
-    note: Option<&Note>,
+    noted: Noted,
 ) -> Result<Option<StreamRow>, NoMemory>
-    ensures { IfOk result (λ row. IfSome row (HasSent sent)) }
+    ensures { IfOk result (λ row. IfSome row (HasNoted noted)) }
 {
-    if sent.sends == 0 {
+    if noted.sent.sends == 0 {
         return Ok(None);
     }
-    let mut row = row_with(alloc, sent, note)?;
+    let mut row = row_with(alloc, noted);
     put(&mut row.name, "life")?;
     put(&mut row.from, "DANHs and RedBoxes")?;
     put(&mut row.to, "all")?;
@@ -245,22 +215,46 @@ fn rows_of(
     life: u64,
     nodes: &[Node],
     names: &[Word],
-    sent: &[Sent],
-    notes: &[Note],
+    all: &Gathered,
 ) -> Result<Vec<StreamRow>, NoMemory>
-    requires { length sent.now ≡ length streams.now + 1 }
-    ensures { IfOk result (λ rows. HaveSent sent.now rows.items) }
+    requires sent { length all.now.sent.items ≡ length streams.now + 1 }
+    requires missing { length all.now.missing.items ≡ length streams.now + 1 }
+    requires longest { length all.now.longest.items ≡ length streams.now + 1 }
+    ensures { IfOk result (λ rows. HaveNoted all.now (length nodes.now) rows.items) }
 {
     let mut rows = Vec::new(alloc);
     let last = streams.len();
+    let many = nodes.len();
     for number in 0..last {
         let stream = &streams[number];
         let name = names.get(number);
-        let note = notes.get(number);
-        rows.push(stream_row(alloc, nodes, name, stream, sent[number], note)?)?;
+        let noted = noted_at(alloc, all, many, number)?;
+        rows.push(stream_row(alloc, nodes, name, stream, noted)?)?;
     }
-    let life = life_row(alloc, nodes, life, sent[last], notes.get(last))?;
+    let noted = noted_at(alloc, all, many, last)?;
+    let life = life_row(alloc, nodes, life, noted)?;
     push_some(&mut rows, life)?;
+    Ok(rows)
+}
+
+/// What came of each of these streams, and behind all of supervision.
+fn rows_by<const C: usize>(
+    alloc: Global,
+    closed: &Closed<C>,
+    streams: &[Stream],
+    life: u64,
+    names: &[Word],
+    sendings: Sendings<'_>,
+) -> Result<Vec<StreamRow>, NoMemory>
+    requires deliveries { sendings.deliveries.now ≡ deliveries closed.now.run }
+    requires outcomes { sendings.outcomes.now ≡ outcomes sendings.audience.now sendings.streams.now 0 (deliveries closed.now.run) }
+    ensures { IfOk result (λ rows. AreStreamRows (record { audience = sendings.entry.audience.now; run = closed.now.run; streams = sendings.entry.streams.now })
+        (length streams.now) rows.items) }
+{
+    let audience = sendings.audience;
+    let nodes = audience.nodes;
+    let all = gather(alloc, closed, sendings, streams.len())?;
+    let rows = rows_of(alloc, streams, life, nodes, names, &all)?;
     Ok(rows)
 }
 
@@ -273,16 +267,13 @@ pub(crate) fn stream_rows<const C: usize>(
     names: &[Word],
     sendings: Sendings<'_>,
 ) -> Result<Vec<StreamRow>, NoMemory>
-    ensures { IfOk result (λ rows. AreStreamRows sendings.entry.streams.now (length plan.now.streams) sendings.entry.outcomes.now rows.items) }
+    requires deliveries { sendings.deliveries.now ≡ deliveries closed.now.run }
+    requires outcomes { sendings.outcomes.now ≡ outcomes sendings.audience.now sendings.streams.now 0 (deliveries closed.now.run) }
+    ensures { IfOk result (λ rows. AreStreamRows (record { audience = sendings.entry.audience.now; run = closed.now.run; streams = sendings.entry.streams.now })
+        (length plan.now.streams) rows.items) }
 {
     let streams = plan.streams.as_slice();
     let life = plan.outline.life;
-    let audience = sendings.audience;
-    let nodes = audience.nodes;
-    let all = sent_of(alloc, sendings.streams, sendings.outcomes, streams.len())?;
-    let sent = all.as_slice();
-    let noted = notes_of(alloc, closed, sendings, streams.len())?;
-    let notes = noted.as_slice();
-    let rows = rows_of(alloc, streams, life, nodes, names, sent, notes)?;
+    let rows = rows_by(alloc, closed, streams, life, names, sendings)?;
     Ok(rows)
 }

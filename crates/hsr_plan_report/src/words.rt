@@ -1,4 +1,7 @@
 //! Streams, events and moves of a plan in words.
+ghost use Rattle.std.specs.Prelude.{◌≡◌};
+ghost use Rattle.hsr_plan_report.specs.Report.{rate_of};
+
 use hsr_frame::NoMemory;
 use hsr_page::{put_grouped, put_moment};
 use hsr_plan_text::{
@@ -181,7 +184,9 @@ pub(crate) fn put_moves(text: &mut Vec<u8>, moves: Moves) -> Result<(), NoMemory
 }
 
 /// What a direction of a link carries, in kbit/s: as the plan says of its wires, else 100 Mbit/s (IEEE 802.3 clause 24).
-pub(crate) fn rate_of(moves: Moves) -> u64 {
+pub(crate) fn rate_of(moves: Moves) -> u64
+    ensures { result ≡ rate_of moves }
+{
     match moves {
         Moves::Timed(Transfer::Wire(wire)) => wire.rate.saturating_mul(1000),
         _ => 100_000,

@@ -35,5 +35,5 @@ pub use counting::{Count, Miss, Outcome, counted, outcomes, stream_at};
 pub use lines::put_found;
 pub use playing::Played;
 pub use sendings::streams_of;
-pub use sweeping::{SweptPlan, play_plan, read_plan, sweep_run};
+pub use sweeping::{SweptPlan, naming_of, play_plan, read_plan, sweep_run};
 pub use verdict::is_in_doubt;

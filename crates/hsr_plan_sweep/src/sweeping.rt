@@ -62,8 +62,8 @@ fn behind_the_end() -> PlanFault {
 
 // ---- lines
 
-/// What calls nodes by their names, and entries by their numbers.
-fn naming_of(alloc: Global, nodes: &[Node]) -> Result<Naming, NoMemory>
+/// What calls nodes by their names, and entries by their numbers, as the lines of a sweep do. `NoMemory` if allocation fails.
+pub fn naming_of(alloc: Global, nodes: &[Node]) -> Result<Naming, NoMemory>
     ensures { IfOk result (IsNamingOf nodes.now) }
 {
     let nodes = node_names(alloc, nodes)?;

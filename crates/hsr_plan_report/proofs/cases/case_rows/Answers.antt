@@ -7,5 +7,5 @@ pub loop-played-preserved : goal.loop-played-preserved
 loop-played-preserved c =
     let n : ℕ = c.loop-played.played-index in
     let below : n < length c.args.plays.now = search rules in
-    cases_more c.args.plays.now n _ c.loop-played.rows.items c.push_row.new.rows.items (λ d. get_or_default c.args.plays.now n d _ below) c.in_ok-push_row.ensures
+    cases_more c.args.naming.now c.args.plays.now n _ c.loop-played.rows.items c.push_row.new.rows.items (λ d. get_or_default c.args.plays.now n d _ below) c.in_ok-push_row.ensures
     c.loop-played.invariant
