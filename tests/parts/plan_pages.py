@@ -5,6 +5,7 @@ import json
 import re
 
 from lib.case_files import ROOT
+from lib.transcripts import Run
 from lib.running import Job, Tally, run
 from parts.pages import HOSTILE, policy_of, read
 
@@ -70,27 +71,96 @@ def sweeps_of(data, page, own, bare):
     return ""
 
 
-def streams_of(data, page, own):
-    """What is wrong with the streams: together they have the sends of the undisturbed run, and the numbers of each stand in its row."""
+def stream_names(plan):
+    """The names of a plan's streams, given or by their kinds."""
+    names, many = [], {}
+    for block in plan.decode().split("[[stream]]")[1:]:
+        keys = dict(re.findall(r'^(\w+) = "?([^"\n]*)"?', block.split("\n[[")[0], re.MULTILINE))
+        kind = keys["type"] if keys["type"] in ("goose", "sv") else "other"
+        many[kind] = many.get(kind, 0) + 1
+        names.append(keys.get("name", f"{kind}{many[kind]}"))
+    return names
+
+
+def off_in(plan):
+    """When which node is off in a plan: lists of name, from and to."""
+    spans, since = [], {}
+    for at, deed, name in re.findall(r'at_us = (\d+)\n(off|on) = "([^"]*)"', plan.decode()):
+        if deed == "off":
+            since[name] = int(at)
+        else:
+            spans.append((name, since.pop(name), int(at)))
+    return spans + [(name, at, 1 << 64) for name, at in since.items()]
+
+
+def streams_by_send(run, scenario, names):
+    """The stream of each send of a run, as the scenario of the plan says them; supervision is of None."""
+    sent, found = {node: [] for node in range(len(names))}, {}
+    for node, rest in re.findall(r'^  \{do="(?:send|life)", node="([^"]*)"(.*)$', scenario, re.MULTILINE):
+        stream = re.search(r', stream="([^"]*)"', rest)
+        sent[names.index(node)].append(stream[1] if stream else None)
+    for node, place in sorted(run.entries):
+        if run.entries[node, place]["kind"] in ("send", "life"):
+            found[node, place] = sent[node].pop(0)
+    assert not any(sent.values())
+    return found
+
+
+def longest_of(transcript, scenario, names):
+    """How long the slowest send of each stream took to a node that took it up."""
+    run, longest = Run(transcript), {}
+    streams = streams_by_send(run, scenario, names)
+    for entry in run.entries.values():
+        if entry["kind"] == "arrive" and entry["up"]:
+            stream = streams[entry["send"]]
+            longest[stream] = max(longest.get(stream, 0), entry["at"] - run.entries[entry["send"]]["at"])
+    return longest
+
+
+def missing_of(report, plan, names):
+    """Which nodes missed a send of each stream while they were on, by the lines of deliveries; for plans in which each stream is for all."""
+    missing = {}
+    for send, at, missed in re.findall(r"^send (\S+) at (\d+) .* missed (\S+) twice ", "\n".join(report), re.MULTILINE):
+        stream = send.split("/")[1] if "/" in send else None
+        off = [name for name, since, until in off_in(plan) if since <= int(at) < until]
+        missing.setdefault(stream, set()).update(names.index(node) for node in missed.split(",") if node != "-" and node not in off)
+    return missing
+
+
+def streams_of(data, page, own, longest, missing, named):
+    """What is wrong with the streams: together they have the sends of the undisturbed run, each its longest and who missed it, and the numbers of
+    each stand in its row."""
     found = rows(data, "streams")
+    for (_, _, longest_told, missing_told), name in zip(found, [*named, None]):
+        if (longest_told, missing_told) != ([longest[name]] if name in longest else [], sorted(missing.get(name, ()))):
+            return f"{name}: longest {longest_told}, missed by {missing_told}, and not {longest.get(name)}, {missing.get(name)}"
     if own and [sum(row[k] for row in found) for k in (0, 1)] != own[-1][1][:2]:
         return f"sends and complete of streams {found}, and not {own[-1][1][:2]} in all"
     shown = [text for _, text in page.of("tr") if "µs" in text or "ms" in text]
-    for sends, complete in found:
+    for sends, complete, _, _ in found:
         wanted = "✓ all" if sends == complete else f"✗ {complete} of {sends}"
         if not any(f"{sends}" in text.replace("\u202f", "") and wanted in text.replace("\u202f", "") for text in shown):
             return f"no row with {sends} and {wanted}"
     return ""
 
 
-def outages_of(data, page, told):
+def cut_from(cuts, names):
+    """How many sends are cut off from each node, by the words of a line: `19 of prot1 from bcu1,bcu2; 3 of ..`."""
+    counts = [0] * len(names)
+    for sends, nodes in re.findall(r"(\d+) of \S+ from ([^;]+)", cuts):
+        for node in nodes.split(","):
+            counts[names.index(node.strip())] += int(sends)
+    return counts
+
+
+def outages_of(data, page, told, names):
     """What is wrong with what faults cut off: the lines of `hsr_plan certify --sweep`, where the plan without its events is certified."""
     if not told or not told[0].startswith("certified "):
         return ""
     cutting = [match.groups() for match in map(OUTAGE.match, told) if match]
-    cut = [row[0] for row in rows(data, "outages") if row[0]]
-    if cut != [int(sends) for _, sends, _, _ in cutting]:
-        return f"cut off {cut[:4]}, and not {cutting[:2]}"
+    found = [row for row in rows(data, "outages") if row[0]]
+    if found != [[int(sends), cut_from(cuts, names)] for _, sends, _, cuts in cutting]:
+        return f"cut off {found[:4]}, and not {cutting[:2]}"
     shown = [text for _, text in page.of("tr")]
     for off, _, _, cuts in cutting:
         if not any(text.startswith(off) and text.endswith(cuts.replace(",", ", ")) for text in shown):
@@ -136,8 +206,10 @@ def try_plan(setting, name, plan):
     tally.count(f"numbers of {name}", numbers_of(data, report, names))
     tally.count(f"any order of {name}", "" if data["any_order"] == told[0] else data["any_order"])
     tally.count(f"sweeps of {name}", sweeps_of(data, page, own, bare if has_events else []))
-    tally.count(f"streams of {name}", streams_of(data, page, own))
-    tally.count(f"outages of {name}", outages_of(data, page, outages))
+    _, transcript, _ = run(setting, "hsr_plan", ["run", "--transcript"], plan)
+    longest, missing = longest_of(transcript.decode(), scenario.decode(), names), missing_of(report, plan, names)
+    tally.count(f"streams of {name}", streams_of(data, page, own, longest, missing, stream_names(plan)))
+    tally.count(f"outages of {name}", outages_of(data, page, outages, names))
     tally.count(f"what is seen of {name}", body_of(page, data, plan, names, HOSTILE))
     wanted = 2 if certified or not report[-1].startswith("certified ") or alone else 0
     tally.count(f"status of {name}", "" if status == wanted else f"{status}, and not {wanted}")

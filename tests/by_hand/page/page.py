@@ -22,12 +22,13 @@ from collections import Counter
 from html.parser import HTMLParser
 
 sys.dont_write_bytecode = True
-sys.path.insert(0, os.path.dirname(os.path.abspath(__file__)))
+HERE = os.path.dirname(os.path.abspath(__file__))
+sys.path[:0] = [HERE, os.path.join(HERE, '..', '..')]
 if '--firefox' in sys.argv:
     from firefox import Browser, Tab    # noqa: E402
 else:
     from browser import Browser, Tab    # noqa: E402
-from run_of import Run                  # noqa: E402
+from lib.transcripts import Run         # noqa: E402
 
 WIDTHS = (320, 390, 640, 641, 768, 900, 1024, 1280, 1499, 1500, 1920, 2560)
 SHOTS = ((390, 844, False), (1024, 768, False), (1920, 1080, False), (1440, 900, True))
