@@ -216,6 +216,32 @@ def try_plan(setting, name, plan):
     return tally
 
 
+# One QuadBox alone joins both rings, so that something is cut off where it is off.
+ONE_QUADBOX = b"""life_ms = 0
+until_us = 5000
+
+[rings]
+r1 = ["a", "b", "qb"]
+r2 = ["c", "d", "qb"]
+
+[[stream]]
+from = "a"
+to = "01-0C-CD-01-00-01"
+type = "goose"
+size = 160
+start_us = 10
+every_us = 1000
+
+[[stream]]
+from = "c"
+to = "b"
+type = 0x88B5
+size = 60
+start_us = 20
+every_us = 2000
+"""
+
+
 def hostile():
     """A plan whose title would break out of its place."""
     title = json.dumps(HOSTILE)
@@ -236,4 +262,4 @@ def try_hostile(setting):
 
 def jobs(setting):
     plans = [(path.stem, path.read_bytes()) for path in sorted(PLANS.glob("*.toml"))]
-    return [Job(try_plan, one, 20) for one in plans] + [Job(try_hostile, (), 2)]
+    return [Job(try_plan, one, 20) for one in [*plans, ("one_quadbox", ONE_QUADBOX)]] + [Job(try_hostile, (), 2)]
