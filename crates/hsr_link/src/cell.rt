@@ -95,14 +95,16 @@ fn take_ready(desk: &mut Desk, dir: Dir) -> Option<Carried>
     desk.link.take(dir)
 }
 
-/// A link under a lock, and those who wait for its copies.
+/// A link under a lock, and those who wait for its copies, in each direction on their own.
 ///
 /// Whenever the lock is free its value is a `Link`, whose queues are its rows that are Queued. No clause names that value:
 /// nothing is proved of what a cell holds at a moment or what a call did to it, nor of waiting, fairness or order.
 #[derive(Drop)]
 pub struct LinkCell {
     desk: Mutex<Desk>,
-    changed: Condvar,
+    // One for each direction, so that a copy wakes nobody who waits for one of the other.
+    forth: Condvar,
+    back: Condvar,
 }
 
 impl LinkCell {
@@ -110,13 +112,22 @@ impl LinkCell {
     pub fn new(link: Link) -> LinkCell {
         LinkCell {
             desk: Mutex::new(desk_of(link)),
-            changed: Condvar::new(),
+            forth: Condvar::new(),
+            back: Condvar::new(),
         }
     }
 
-    /// Waits for the lock, puts a copy, wakes all who wait for one, and tells what became of it: Queued, LostDown on a cut
-    /// link, or LostOverrun where its queue is full. A closed cell takes copies as before. `NoMemory` if allocation fails:
-    /// then the copy comes back.
+    /// Where those wait who take copies of a direction.
+    fn takers(&self, dir: Dir) -> &Condvar {
+        match dir {
+            Dir::Forth => &self.forth,
+            Dir::Back => &self.back,
+        }
+    }
+
+    /// Waits for the lock, puts a copy, wakes one who waits for one in its direction, and tells what became of it: Queued,
+    /// LostDown on a cut link, or LostOverrun where its queue is full. A closed cell takes copies as before. `NoMemory` if
+    /// allocation fails: then the copy comes back.
     pub fn put(
         &self,
         rt: &impl Wait,
@@ -129,9 +140,9 @@ impl LinkCell {
         self.add(rt, dir, carried, false)
     }
 
-    /// Waits for the lock, puts a copy that no port sent, whose row says so, wakes all who wait for one, and tells what
-    /// became of it: Queued, LostDown on a cut link, or LostOverrun where its queue is full. A closed cell takes copies as
-    /// before. `NoMemory` if allocation fails: then the copy comes back.
+    /// Waits for the lock, puts a copy that no port sent, whose row says so, wakes one who waits for one in its direction, and
+    /// tells what became of it: Queued, LostDown on a cut link, or LostOverrun where its queue is full. A closed cell takes
+    /// copies as before. `NoMemory` if allocation fails: then the copy comes back.
     pub fn inject(
         &self,
         rt: &impl Wait,
@@ -144,7 +155,7 @@ impl LinkCell {
         self.add(rt, dir, carried, true)
     }
 
-    /// Waits for the lock, adds the row of a copy that was put or injected, and wakes all who wait for one.
+    /// Waits for the lock, adds the row of a copy that was put or injected, and wakes one who waits for one in its direction.
     fn add(
         &self,
         rt: &impl Wait,
@@ -156,8 +167,10 @@ impl LinkCell {
         ensures err { IfErr result (λ e. e.0 ≡ carried) }
     {
         let fate = add_at(&mut self.desk.lock(rt), dir, carried, injected)?;
-        // All are woken and not one: those who wait for either direction wait at one `Condvar`.
-        self.changed.notify_all();
+        // A copy that is lost is there for nobody.
+        if fate == Fate::Queued {
+            self.takers(dir).notify_one();
+        }
         Ok(fate)
     }
 
@@ -176,9 +189,10 @@ impl LinkCell {
     /// closed, whatever waits there. Needs no memory.
     pub fn take_or_closed(&self, rt: &impl Wait, dir: Dir) -> Option<Carried> {
         // The lock is kept from the wait to the take, so no other takes the copy in between.
+        let desk = self.desk.lock(rt);
         let mut desk = self
-            .changed
-            .wait_while(rt, self.desk.lock(rt), |desk| !is_ready(desk, dir));
+            .takers(dir)
+            .wait_while(rt, desk, |desk| !is_ready(desk, dir));
         take_ready(&mut desk, dir)
     }
 
@@ -186,12 +200,13 @@ impl LinkCell {
     /// Needs no memory.
     pub fn close(&self, rt: &impl Wait) {
         close_at(&mut self.desk.lock(rt));
-        self.changed.notify_all();
+        self.forth.notify_all();
+        self.back.notify_all();
     }
 
     /// The link, out of the lock. Waits for nobody, and needs no memory.
     pub fn into_link(self) -> Link {
-        let LinkCell { desk, changed: _ } = self;
+        let LinkCell { desk, .. } = self;
         link_of(desk.into_inner())
     }
 }
