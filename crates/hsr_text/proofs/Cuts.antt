@@ -1,5 +1,5 @@
 -- A cut at a separator, by a search for it.
-use Rattle.std.proofs.Common.{◌≡◌, ℕ, zero, suc, ◌+◌, ◌-◌, ◌<◌, ◌≤◌, ◌==◌, Option, None, Some, List, [], ◌∷◌, ◌++◌, ◌∙◌, length, take, drop, slice_index, refl, sym, ap, arith, Bool, true, false}
+use Rattle.std.proofs.Common.{◌≡◌, ℕ, zero, suc, ◌+◌, ◌-◌, ◌<◌, ◌==◌, None, Some, List, [], ◌∷◌, ◌++◌, ◌∙◌, length, take, drop, slice_index, refl, sym, ap, arith, Bool, true, false}
 use Rattle.std.proofs.lemmas.Bool.{eqb-true}
 use Rattle.std.proofs.lemmas.List.{take_rest}
 use Rattle.std.proofs.lemmas.Option.{same_Some}

@@ -1,5 +1,5 @@
 -- A line, piece by piece.
-use Rattle.std.proofs.Common.{◌≡◌, ◌≢◌, ℕ, ◌+◌, ◌<◌, ◌≤◌, ◌==◌, suc, Option, None, Some, List, [], ◌∷◌, ◌++◌, ◌∙◌, length, take, drop, get_or, IfSome, refl, ap, sym, subst, arith, append_assoc, append-nil, Bool, true, false}
+use Rattle.std.proofs.Common.{◌≡◌, ℕ, ◌+◌, ◌<◌, ◌≤◌, ◌==◌, suc, Option, None, Some, List, [], ◌∷◌, ◌++◌, ◌∙◌, length, take, drop, get_or, IfSome, refl, ap, sym, subst, arith, append_assoc, append-nil, Bool, true, false}
 use Rattle.std.proofs.lemmas.List.{length-append, length-take, length-take-le, take_all, take_more, take-take}
 use Rattle.std.proofs.Math.Seq.{take-append_seam}
 use Rattle.std.proofs.lemmas.Option.{same_Some}

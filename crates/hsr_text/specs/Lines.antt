@@ -1,6 +1,6 @@
 -- A text cut into its lines.
-use Rattle.std.specs.Prelude.{◌≡◌, ℕ, ◌+◌, ◌<◌, ◌≤◌, ◌==◌, List, [], ◌∷◌, ◌++◌, length, take, drop, Option, Some, None, if◌then◌else◌, IfSome, MatchOption, MatchResult, Result}
-use Rattle.std.specs.Io.KnownBytes.{Consumes, IsAtEnd, Keeps}
+use Rattle.std.specs.Prelude.{◌≡◌, ℕ, ◌+◌, ◌<◌, ◌≤◌, ◌==◌, List, [], ◌∷◌, ◌++◌, length, take, drop, Option, Some, None, if◌then◌else◌, IfSome}
+use Rattle.std.specs.Io.KnownBytes.{Consumes, IsAtEnd}
 use Rattle.hsr_text.specs.Words.{cut}
 use Rattle.hsr_text.specs.declared.lines.Front.{Front}
 use Rattle.hsr_text.specs.declared.lines.Front.TheVariants.{Line, Rest, TooLong}

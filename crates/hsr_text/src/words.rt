@@ -1,6 +1,7 @@
 //! The words of a line of text, and texts that grow by words.
 ghost use Rattle.std.specs.Prelude.{◌≡◌, ◌<◌, ◌≤◌, ◌*◌, ◌++◌, ℕ, None, Ok, Some, if◌then◌else◌, length, option_map, slice_index, true, OnErr, OnOk};
 ghost use Rattle.std.specs.Char.{is_ascii_hexdigit};
+ghost use Rattle.std.specs.List.{list_all};
 ghost use Rattle.std.specs.Fmt.{decimal as decimal_text};
 ghost use Rattle.std.specs.Result.{result_ok};
 ghost use Rattle.hex.specs.Hex.{decode_of, decode_pairs, encode_upper, hex_digit_value, pair_value, upper_digits};
@@ -73,16 +74,28 @@ pub fn hex_pair(word: &[u8]) -> Option<u16>
     }
 }
 
-/// The number that a hexadecimal digit of either case spells; the low bits of a letter are its place from 1.
-#[tactic(auto, using(crate::proofs::HexDigits::letter, crate::proofs::HexDigits::number))]
-fn nibble(digit: u8) -> u8
-    ensures value { is_ascii_hexdigit digit ≡ true → hex_digit_value digit ≡ Some result }
+/// Whether all of these are hexadecimal digits of either case. The loop has no branches, so that it is one of vectors.
+#[tactic(auto, using(crate::proofs::HexDigits::one_digit_more))]
+fn are_digits(digits: &[u8]) -> bool
+    ensures { result ≡ list_all is_ascii_hexdigit digits.now }
 {
-    if digit > b'9' {
-        (digit & 0xF) + 9
-    } else {
-        digit & 0xF
+    let mut all = true;
+    for digit in digits {
+        // `&` and not `&&`, which would branch.
+        all &= digit.is_ascii_hexdigit();
     }
+    all
+}
+
+/// The number that a hexadecimal digit of either case spells. The low bits of a letter are its place from 1, and a letter has a bit
+/// that a number lacks.
+#[tactic(auto, using(crate::proofs::HexDigits::value_is))]
+fn nibble(digit: u16) -> u16
+    requires { digit < 256 }
+    ensures value { is_ascii_hexdigit digit ≡ true → hex_digit_value digit ≡ Some result }
+    ensures room { result < 64 }
+{
+    (digit & 0xF) + (digit >> 6) * 9
 }
 
 /// The octet that two hexadecimal digits of either case spell.
@@ -91,42 +104,39 @@ fn octet_of(high: u8, low: u8) -> u8
     ensures { (i : ℕ) → is_ascii_hexdigit high ≡ true → is_ascii_hexdigit low ≡ true
         → pair_value high low i ≡ Ok result }
 {
-    // Wrapping: of other characters the octet means nothing, and `read_hex` answers that they came.
-    nibble(high).wrapping_mul(16).wrapping_add(nibble(low))
+    // Both at once, since vectors read what stands together: two octets on their own are taken one by one.
+    let pair = u16::from_be_bytes([high, low]);
+    // Cut to an octet: of other characters it means nothing, and nobody asks for it.
+    ((nibble(pair >> 8) * 16 + nibble(pair & 0xFF)) & 0xFF) as u8
 }
 
-/// Fills a slice with the octets that pairs of characters spell, and tells whether all are hexadecimal digits. The loop
-/// has no branches, so that it is one of vectors.
-fn read_hex(octets: &mut [u8], digits: &[u8]) -> bool
-    requires { length digits.now ≡ 2 * length octets.old }
-    ensures { result_ok (decode_pairs 0 digits.now) ≡ (if result then Some octets.new else None) }
+/// Fills a slice with the octets that pairs of hexadecimal digits spell.
+fn fill_octets(octets: &mut [u8], digits: &[u8])
+    requires length { length digits.now ≡ 2 * length octets.old }
+    requires digits { list_all is_ascii_hexdigit digits.now ≡ true }
+    ensures { result_ok (decode_pairs 0 digits.now) ≡ Some octets.new }
 {
-    let mut all = true;
     for i in 0..octets.len() {
-        let high = digits[2 * i];
-        let low = digits[2 * i + 1];
-        // `&` and not `&&`, which would branch.
-        all &= high.is_ascii_hexdigit() & low.is_ascii_hexdigit();
-        octets[i] = octet_of(high, low);
+        octets[i] = octet_of(digits[2 * i], digits[2 * i + 1]);
     }
-    all
 }
 
 /// The octets that pairs of hexadecimal digits of either case spell.
+#[tactic(auto, using(crate::proofs::HexDigits::none_spelled))]
 fn pairs_of(alloc: Global, digits: &[u8]) -> Result<Vec<u8>, WordFault>
     ensures { Gives (λ v. v.items) result (result_ok (decode_of digits.now)) }
 {
     if digits.len() % 2 != 0 {
         return Err(WordFault::Bad);
     }
+    if !are_digits(digits) {
+        return Err(WordFault::Bad);
+    }
     let Ok(mut octets) = vec![in alloc; 0u8; digits.len() / 2] else {
         return Err(WordFault::Memory);
     };
-    if read_hex(octets.as_mut_slice(), digits) {
-        Ok(octets)
-    } else {
-        Err(WordFault::Bad)
-    }
+    fill_octets(octets.as_mut_slice(), digits);
+    Ok(octets)
 }
 
 /// The octets that hexadecimal text of either case spells; a hyphen spells none. `Bad` where the word is neither,

@@ -1,6 +1,5 @@
-use Rattle.std.proofs.Common.{◌≡◌, length}
 use Rattle.hsr_text.proofs.HexDigits.{Reads}
-use Rattle.hsr_text.proofs.words.read_hex.Given as goal
+use Rattle.hsr_text.proofs.words.fill_octets.Given as goal
 
 abbrev pub invariant-loop-i : goal.invariant-loop-i
-invariant-loop-i l = Reads l.digits l.octets l.i l.all
+invariant-loop-i l = Reads l.digits l.octets l.i
