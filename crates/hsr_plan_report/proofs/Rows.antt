@@ -1,17 +1,18 @@
 -- Rows of streams, one after another, that tell what was gathered.
-use Rattle.std.proofs.Common.{◌≡◌, ℕ, zero, suc, ◌+◌, ◌<◌, Bool, List, [], ◌∷◌, ◌++◌, drop, get_or, length, ◌⊎◌, inl, inr, refl, sym, ap, subst, ◌∙◌, arith, append_assoc, Option, Some, None}
+use Rattle.std.proofs.Common.{◌≡◌, ℕ, zero, suc, ◌+◌, ◌<◌, ◌≤◌, Bool, List, [], ◌∷◌, ◌++◌, drop, get_or, length, ◌⊎◌, inl, inr, refl, sym, ap, subst, ◌∙◌, arith, append_assoc, Option, Some, None}
 use Rattle.std.specs.Prelude.{if◌then◌else◌, min, option_map, option_to_list, slice_get, IfSome}
 use Rattle.std.proofs.lemmas.List.{append-nil, drop_more}
-use Rattle.std.proofs.lemmas.Option.{same_Some}
+use Rattle.std.proofs.lemmas.Option.{same_Some, slice_get_cases}
 use Rattle.hsr_bitset.specs.Numbers.{has}
 use Rattle.hsr_deliveries.specs.Delivered.{Delivery, deliveries, nodes_below}
 use Rattle.hsr_frame.proofs.OneMore.{passing_more}
 use Rattle.hsr_latency.specs.declared.grouped.Member.{Member}
 use Rattle.hsr_plan_page.specs.declared.facts.StreamRow.{StreamRow}
-use Rattle.hsr_plan_sweep.specs.Counting.{stream_if}
+use Rattle.hsr_plan_sweep.specs.Counting.{outcomes, stream_if}
 use Rattle.hsr_plan_report.specs.Missing.{one_missed}
-use Rattle.hsr_plan_report.specs.StreamRows.{AreGathered, AreStreamRows, HasNoted, HaveNoted, IsNoted, Sends, members, time_of}
-use Rattle.hsr_plan_report.specs.Streams.{row_of}
+use Rattle.hsr_plan_report.specs.StreamRows.{AreGathered, AreStreamRows, EachNoted, HasNoted, HaveNoted, IsNoted, IsStreamRow, Sends, members, rows_for, time_of}
+use Rattle.hsr_plan_report.specs.Streams.{row_of, sends_at}
+use Rattle.hsr_plan_report.specs.declared.sent.Sent.{Sent}
 use Rattle.hsr_plan_report.specs.declared.streams.Gathered.{Gathered}
 use Rattle.hsr_plan_report.specs.declared.streams.Noted.{Noted}
 
@@ -21,6 +22,9 @@ pub members_step : (seen : List Member) (streams : List (Option ℕ)) (last : �
 members_step seen streams last ds i d h =
     ap (λ xs. seen ++ members streams last i xs) (drop_more ds i d h)
     ∙ sym (append_assoc seen (record { send = (get_or ds i d).send; group = row_of last (stream_if (slice_get streams i)) } ∷ []) (members streams last (i + 1) (drop (i + 1) ds)))
+
+none≢some : {X : Type 0} {x : X} → None ≡ Some x → ⊥
+none≢some e = cc
 
 pushed : {X : Type 0} (xs : List X) (y x : X) (k : ℕ) → slice_get (xs ++ y ∷ []) k ≡ Some x → (slice_get xs k ≡ Some x) ⊎ ((k ≡ length xs) × (x ≡ y))
 pushed [] y x zero at_k = inr (refl, sym (same_Some y x at_k))
@@ -34,8 +38,8 @@ pushed (z ∷ xs) y x (suc k) at_k = by_place (pushed xs y x k at_k)
 
 module _ (all : Gathered) (nodes : ℕ) where
   -- one row more
-  pub have_more : (rows : List StreamRow) (k : ℕ) (noted : Noted) (row : StreamRow) → length rows ≡ k → IsNoted all nodes k noted → HasNoted noted row → HaveNoted all nodes rows
-      → HaveNoted all nodes (rows ++ row ∷ [])
+  pub have_more : (rows : List StreamRow) (k : ℕ) (noted : Noted) (row : StreamRow) → length rows ≡ k → IsNoted all nodes k noted → HasNoted noted row → EachNoted all nodes rows
+      → EachNoted all nodes (rows ++ row ∷ [])
   have_more rows k noted row long is has have n own at_n = by_place (pushed rows row own n at_n)
     where
       by_place : (slice_get rows n ≡ Some own) ⊎ ((n ≡ length rows) × (own ≡ row)) → (it : Noted) × IsNoted all nodes n it × HasNoted it own
@@ -43,9 +47,9 @@ module _ (all : Gathered) (nodes : ℕ) where
       by_place (inr new) = (noted, subst (λ m. IsNoted all nodes m noted) (sym (new.0 ∙ long)) is, subst (HasNoted noted) (sym new.1) has)
 
   -- and perhaps another one
-  pub have_last : (rows : List StreamRow) (k : ℕ) (noted : Noted) (row : Option StreamRow) → length rows ≡ k → IsNoted all nodes k noted → IfSome row (HasNoted noted) → HaveNoted all nodes rows
-      → HaveNoted all nodes (rows ++ option_to_list row)
-  have_last rows k noted None long is has have = subst (HaveNoted all nodes) (sym (append-nil rows)) have
+  pub have_last : (rows : List StreamRow) (k : ℕ) (noted : Noted) (row : Option StreamRow) → length rows ≡ k → IsNoted all nodes k noted → IfSome row (HasNoted noted) → EachNoted all nodes rows
+      → EachNoted all nodes (rows ++ option_to_list row)
+  have_last rows k noted None long is has have = subst (EachNoted all nodes) (sym (append-nil rows)) have
   have_last rows k noted (Some row) long is has have = have_more rows k noted row long is has have
 
 -- tests that agree below a number pick the same below it
@@ -59,8 +63,9 @@ nodes_same (suc n) p q same =
 at_most : (n k : ℕ) → k < min n 512 → k < 512
 at_most n k low = omega (arith, low)
 
-pub rows_noted : (s : Sends) (last : ℕ) (all : Gathered) (rows : List StreamRow) → AreGathered s last all → HaveNoted all (length s.audience.nodes) rows → AreStreamRows s last rows
-rows_noted s last all rows are have k row here =
+each_noted : (s : Sends) (last : ℕ) (all : Gathered) (rows : List StreamRow) → AreGathered s last all → EachNoted all (length s.audience.nodes) rows
+    → (k : ℕ) (row : StreamRow) → slice_get rows k ≡ Some row → IsStreamRow s last k row
+each_noted s last all rows are have k row here =
     let own = have k row here in
     let noted = own.0 in
     let is = own.1 in
@@ -74,3 +79,18 @@ rows_noted s last all rows are have k row here =
           ∙ nodes_same (min nodes 512) (has is.set) (λ node. one_missed s.audience s.streams last k node 0 (deliveries s.run)) (λ node low. are.missing k is.set is.is_set node (at_most nodes node low));
       longest = tells.latency ∙ is.latency ∙ ap (option_map time_of) (are.longest.each k is.most is.is_most);
     }
+
+pub rows_noted : (s : Sends) (last : ℕ) (all : Gathered) (rows : List StreamRow) → AreGathered s last all → HaveNoted all (length s.audience.nodes) last rows → AreStreamRows s last rows
+rows_noted s last all rows are have = record {
+  many = at_last (slice_get all.sent.items last) refl;
+  each = each_noted s last all rows are have.each;
+}
+  where
+    at_last : (found : Option Sent) → slice_get all.sent.items last ≡ found
+        → length rows ≡ last + rows_for (sends_at s.streams last (outcomes s.audience s.streams 0 (deliveries s.run)) last)
+    at_last (Some sent) here = have.many sent here ∙ ap (λ n. last + rows_for n) (are.sent last sent here).0
+    at_last None here = absurd (there (slice_get_cases all.sent.items last).1)
+      where
+        there : ((x : Sent) × (last < length all.sent.items) × (slice_get all.sent.items last ≡ Some x) × (get_or all.sent.items last x ≡ x)) ⊎ ((length all.sent.items ≤ last) × (slice_get all.sent.items last ≡ None)) → ⊥
+        there (inl some) = none≢some (sym here ∙ some.2)
+        there (inr past) = let long = are.long in omega (arith, long, past.0)

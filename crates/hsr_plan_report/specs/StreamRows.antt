@@ -1,7 +1,8 @@
 -- What came of each stream, as rows of a page.
 --     members         of which row each send is
---     AreStreamRows   each row tells how many sends its stream had, how many of these are complete, which nodes missed one, and the longest
-use Rattle.std.specs.Prelude.{ℕ, ◌≡◌, ◌+◌, min, List, [], ◌∷◌, length, slice_get, Option, Some, option_map}
+--     AreStreamRows   there is a row for each stream, and each tells how many sends it had, how many of these are complete, which nodes missed
+--                     one, and the longest; behind all one for supervision, where it sent something
+use Rattle.std.specs.Prelude.{ℕ, ◌≡◌, ◌+◌, ◌==◌, if◌then◌else◌, min, List, [], ◌∷◌, length, slice_get, Option, Some, option_map}
 use Rattle.hsr_bitset.specs.Numbers.{has}
 use Rattle.hsr_run_laws.specs.Run.{Run}
 use Rattle.hsr_deliveries.specs.Delivered.{Delivery, deliveries, nodes_below}
@@ -13,6 +14,7 @@ use Rattle.hsr_plan_sweep.specs.Audience.{Audience}
 use Rattle.hsr_plan_sweep.specs.Counting.{outcomes, stream_if}
 use Rattle.hsr_plan_report.specs.Missing.{AreMissing, one_missed}
 use Rattle.hsr_plan_report.specs.Streams.{AreSent, complete_at, row_of, sends_at}
+use Rattle.hsr_plan_report.specs.declared.sent.Sent.{Sent}
 use Rattle.hsr_plan_report.specs.declared.streams.Gathered.{Gathered}
 use Rattle.hsr_plan_report.specs.declared.streams.Noted.{Noted}
 
@@ -37,8 +39,14 @@ pub record IsStreamRow (s : Sends) (last k : ℕ) (row : StreamRow) : Type 0 whe
   pub missing : row.missing.items ≡ nodes_below (min (length s.audience.nodes) 512) (λ node. one_missed s.audience s.streams last k node 0 (deliveries s.run))
   pub longest : row.latency ≡ option_map time_of (longest (group_of (members s.streams last 0 (deliveries s.run))) (taken s.run) k)
 
-abbrev pub AreStreamRows : Sends → ℕ → List StreamRow → Type 0
-AreStreamRows s last rows = (k : ℕ) (row : StreamRow) → slice_get rows k ≡ Some row → IsStreamRow s last k row
+-- how many rows supervision has that sent so often
+abbrev pub rows_for : ℕ → ℕ
+rows_for sends = if sends == 0 then 0 else 1
+
+-- the rows of so many streams, and behind them that of supervision, if it has one
+pub record AreStreamRows (s : Sends) (last : ℕ) (rows : List StreamRow) : Type 0 where
+  pub many : length rows ≡ last + rows_for (sends_at s.streams last (outcomes s.audience s.streams 0 (deliveries s.run)) last)
+  pub each : (k : ℕ) (row : StreamRow) → slice_get rows k ≡ Some row → IsStreamRow s last k row
 
 -- ---- how they are gathered
 
@@ -68,5 +76,10 @@ pub record HasNoted (noted : Noted) (row : StreamRow) : Type 0 where
   pub latency : row.latency ≡ noted.latency
 
 -- each row has what was noted of it
-abbrev pub HaveNoted : Gathered → ℕ → List StreamRow → Type 0
-HaveNoted all nodes rows = (k : ℕ) (row : StreamRow) → slice_get rows k ≡ Some row → (noted : Noted) × IsNoted all nodes k noted × HasNoted noted row
+abbrev pub EachNoted : Gathered → ℕ → List StreamRow → Type 0
+EachNoted all nodes rows = (k : ℕ) (row : StreamRow) → slice_get rows k ≡ Some row → (noted : Noted) × IsNoted all nodes k noted × HasNoted noted row
+
+-- and these are all rows, of so many streams
+pub record HaveNoted (all : Gathered) (nodes last : ℕ) (rows : List StreamRow) : Type 0 where
+  pub many : (sent : Sent) → slice_get all.sent.items last ≡ Some sent → length rows ≡ last + rows_for sent.sends
+  pub each : EachNoted all nodes rows

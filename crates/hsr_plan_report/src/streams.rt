@@ -2,7 +2,7 @@
 ghost use Rattle.std.specs.Prelude.{◌≡◌, ◌+◌, ◌<◌, ◌^◌, ◌++◌, length, option_map, option_to_list, IfOk, IfSome, OnOk};
 ghost use Rattle.hsr_deliveries.specs.Delivered.{deliveries};
 ghost use Rattle.hsr_plan_sweep.specs.Counting.{outcomes};
-ghost use Rattle.hsr_plan_report.specs.StreamRows.{AreGathered, AreStreamRows, HasNoted, HaveNoted, IsNoted, members, time_of};
+ghost use Rattle.hsr_plan_report.specs.StreamRows.{AreGathered, AreStreamRows, HasNoted, HaveNoted, IsNoted, members, rows_for, time_of};
 
 use crate::missing::{missing_of, nodes_of};
 use crate::sent::{Sent, row_of, sent_of};
@@ -183,7 +183,8 @@ fn life_row(
     life: u64,
     noted: Noted,
 ) -> Result<Option<StreamRow>, NoMemory>
-    ensures { IfOk result (λ row. IfSome row (HasNoted noted)) }
+    ensures row { IfOk result (λ row. IfSome row (HasNoted noted)) }
+    ensures many { IfOk result (λ row. length (option_to_list row) ≡ rows_for noted.sent.sends) }
 {
     if noted.sent.sends == 0 {
         return Ok(None);
@@ -220,7 +221,7 @@ fn rows_of(
     requires sent { length all.now.sent.items ≡ length streams.now + 1 }
     requires missing { length all.now.missing.items ≡ length streams.now + 1 }
     requires longest { length all.now.longest.items ≡ length streams.now + 1 }
-    ensures { IfOk result (λ rows. HaveNoted all.now (length nodes.now) rows.items) }
+    ensures { IfOk result (λ rows. HaveNoted all.now (length nodes.now) (length streams.now) rows.items) }
 {
     let mut rows = Vec::new(alloc);
     let last = streams.len();

@@ -10,4 +10,4 @@ returns g c =
     let all = c.in_ok-all.all in
     let rows = c.in_ok-rows.rows.items in
     let nodes = ap (λ (a : Audience). length a.nodes) c.audience.view_is in
-    rows_noted s (length c.args.streams.now) all rows c.in_ok-all.ensures (subst (λ n. HaveNoted all n rows) nodes c.in_ok-rows.ensures)
+    rows_noted s (length c.args.streams.now) all rows c.in_ok-all.ensures (subst (λ n. HaveNoted all n (length c.args.streams.now) rows) nodes c.in_ok-rows.ensures)
