@@ -9,7 +9,7 @@ use Rattle.hsr_sightings.specs.Frames.{begins}
 use Rattle.hsr_sightings.specs.Read.{AreSightings}
 use Rattle.hsr_sightings.specs.Ring.{Ring}
 use Rattle.hsr_sightings.specs.Fields.{Sighting}
-use Rattle.hsr_health.specs.Counted.{AreCounted, AreFated, AreFates, AreOfSources, AreSkewed, AreSources, HaveNoFates, HaveNoLives, IsFated, IsSkewed, counted, counts_with, has_wrong_lane, has_wrong_size, is_of, mark_of, no_counts, no_fates, skews_of, told_by, with_skew}
+use Rattle.hsr_health.specs.Counted.{AreCounted, AreFated, AreFates, AreOfSources, AreSkewed, AreSources, HaveNoFates, IsFated, IsSkewed, counted, counts_with, has_wrong_lane, has_wrong_size, is_of, mark_of, no_counts, no_fates, skews_of, told_by, with_skew}
 use Rattle.hsr_spread.specs.Spreads.{AreSpreads, IsSpread}
 use Rattle.hsr_health.specs.declared.counts.Counts.{Counts}
 use Rattle.hsr_health.specs.declared.counts.Fates.{Fates}
@@ -59,22 +59,6 @@ still_no_fates is_by_lane ring copies macs i counts are k mac own mac_k own_k =
 pub none_counted : (is_by_lane : ℕ → Bool) (ring : Ring) (copies : List CaughtFields) (macs : List (List ℕ)) (counts : List Counts) → ((k : ℕ) (own : Counts) → slice_get counts k ≡ Some own → own ≡ no_counts)
     → AreCounted is_by_lane ring copies macs 0 counts
 none_counted is_by_lane ring copies macs counts none k mac own mac_k own_k = none k own own_k
-
--- nor supervision frames
-no_lives_in : (is_by_lane : ℕ → Bool) (ring : Ring) (source : List ℕ) (past : List CaughtFields)
-    → ((counted is_by_lane ring no_counts source past).lives ≡ 0) × ((counted is_by_lane ring no_counts source past).unreadable ≡ 0)
-no_lives_in is_by_lane ring source [] = (refl, refl)
-no_lives_in is_by_lane ring source (c ∷ past) = by_source (is_of source c) (no_lives_in is_by_lane ring source past)
-  where
-    before : Counts
-    before = counted is_by_lane ring no_counts source past
-
-    with_one : Counts
-    with_one = counts_with before (mark_of is_by_lane ring past c) c.copy.seq
-
-    by_source : (b : Bool) → (before.lives ≡ 0) × (before.unreadable ≡ 0) → ((cond b with_one before).lives ≡ 0) × ((cond b with_one before).unreadable ≡ 0)
-    by_source true none = none
-    by_source false none = none
 
 -- ---- the whole
 
@@ -138,16 +122,6 @@ all_of_sources ring is_by_lane copies macs of_copy numbers all marked fated new 
     is : IsFated ring copies mac base all its.before
     is = fated_are k mac base its.before mac_k at_k its.counted
 
-    kept : (f : Counts → ℕ) → ((x : Counts) (s : Option Spread) → f (record x { skew = s }) ≡ f x) → ((x : Counts) (g s : Fates) → f (record x { group = g; single = s }) ≡ f x)
-        → f own ≡ f (counted is_by_lane ring no_counts mac (reverse copies))
-    kept = kept_field ring is_by_lane copies macs all marked fated new spreads counted_are fated_are long skewed k mac own mac_k own_k
-
-pub no_lives : (ring : Ring) (is_by_lane : ℕ → Bool) (copies : List CaughtFields) (macs : List (List ℕ)) (all : List Sighting) (marked fated new : List Counts) (spreads : List (Option Spread))
-    → AreCounted is_by_lane ring copies macs (length copies) marked → AreFated ring copies macs marked all fated → length fated ≡ length marked → AreSkewed fated spreads new → HaveNoLives macs new
-no_lives ring is_by_lane copies macs all marked fated new spreads counted_are fated_are long skewed k mac own mac_k own_k =
-    let none = no_lives_in is_by_lane ring mac (reverse copies) in
-    (kept (λ x. x.lives) (λ x s. refl) (λ x g s. refl) ∙ none.0, kept (λ x. x.unreadable) (λ x s. refl) (λ x g s. refl) ∙ none.1)
-  where
     kept : (f : Counts → ℕ) → ((x : Counts) (s : Option Spread) → f (record x { skew = s }) ≡ f x) → ((x : Counts) (g s : Fates) → f (record x { group = g; single = s }) ≡ f x)
         → f own ≡ f (counted is_by_lane ring no_counts mac (reverse copies))
     kept = kept_field ring is_by_lane copies macs all marked fated new spreads counted_are fated_are long skewed k mac own mac_k own_k

@@ -210,10 +210,6 @@ skews_of ring source copies = filter_map (λ s. option_map (λ n. n / 1000) (ske
 abbrev pub told_by : List ℕ → the_sighting.Sighting → Option Told
 told_by of_copy s = option_map (λ n. record { of = slice_index of_copy s.first; amount = n / 1000 }) (skew_of s)
 
--- its supervision frames aren't counted yet
-abbrev pub HaveNoLives : List (List ℕ) → List Counts → Type 0
-HaveNoLives macs counts = (k : ℕ) (mac : List ℕ) (own : Counts) → slice_get macs k ≡ Some mac → slice_get counts k ≡ Some own → (own.lives ≡ 0) × (own.unreadable ≡ 0)
-
 -- of a source, all but its supervision frames
 pub record OfSource (ring : Ring) (is_by_lane : ℕ → Bool) (source : List ℕ) (copies : List CaughtFields) (counts : Counts) : Type 0 where
   pub frames : counts.frames ≡ count_of source begins copies

@@ -2,7 +2,7 @@
 ghost use Rattle.std.specs.Prelude.{◌≡◌, ◌++◌, ℕ, Bool, List, filter_map, length, option_to_list, reverse, slice_get, slice_index, IfOk, OnOk, Some};
 ghost use Rattle.hsr_frame.specs.Address.{is_group};
 ghost use Rattle.hsr_frame_groups.specs.Frames.{CaughtFields};
-ghost use Rattle.hsr_health.specs.Counted.{AreCounted, AreFated, AreOfSources, AreSkewed, AreSources, HaveNoFates, HaveNoLives, changed, counts_with, fates_with, mark_by, mark_of, more_if, no_counts, told_by, with_fate, with_skew};
+ghost use Rattle.hsr_health.specs.Counted.{AreCounted, AreFated, AreOfSources, AreSkewed, AreSources, HaveNoFates, changed, counts_with, fates_with, mark_by, mark_of, more_if, no_counts, told_by, with_fate, with_skew};
 ghost use Rattle.hsr_spread.specs.Spreads.{AreSpreads};
 ghost use Rattle.hsr_health.specs.declared.counts.Counts as the_counts;
 ghost use Rattle.hsr_sightings.specs.Copies.{is_clash, is_late};
@@ -354,8 +354,6 @@ pub(crate) fn counts_of(
     ensures counts { IfOk result (λ counts. (is_by_lane : ℕ → Bool) (macs : List (List ℕ)) (numbers : List ℕ) → TellsEach (mark_of is_by_lane ring.now) copies.now marks.now
         → AreSources copies.now macs of_copy.now → AreSightings ring.now copies.now sightings.now numbers
         → AreOfSources ring.now is_by_lane macs (reverse copies.now) counts.items) }
-    ensures lives { IfOk result (λ counts. (is_by_lane : ℕ → Bool) (macs : List (List ℕ)) (numbers : List ℕ) → TellsEach (mark_of is_by_lane ring.now) copies.now marks.now
-        → AreSources copies.now macs of_copy.now → AreSightings ring.now copies.now sightings.now numbers → HaveNoLives macs counts.items) }
 {
     let mut counts = no_counts(alloc, many)?;
     count_copies(&mut counts, copies, of_copy, marks);

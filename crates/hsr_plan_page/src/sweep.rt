@@ -13,10 +13,10 @@ use hsr_page::{put_escaped_octets, put_grouped};
 use hsr_text::put;
 use std::alloc::Global;
 
-/// How many rows a table has at most that also lists what misses nothing.
+/// How many rows a table has at most that also lists what misses nothing. A reader of more looks for what misses something.
 const ROWS: usize = 26;
 
-/// How many columns the matrix has at most.
+/// How many columns the matrix has at most: as many as stand side by side on a sheet of paper, with the faults before them.
 const NODES: usize = 24;
 
 // ---- who is cut off

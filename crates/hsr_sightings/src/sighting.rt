@@ -20,8 +20,8 @@ use std::marker::Model;
 /// How many points there may be, as numbers.
 const POINTS: u64 = 64;
 
-/// A frame as a point saw it. It takes 32 octets of room, half of what the list of a large capture else took: its first copy came one way, so that
-/// the moment of one other copy is enough.
+/// A frame as a point saw it. Its first copy came one way, so that the moment of one other copy is enough: it takes 32 octets of room,
+/// two thirds of what it took with a moment for each way, and a large capture has a list of a million.
 #[derive(Drop)]
 pub struct Sighting {
     at: u64,
