@@ -1,5 +1,5 @@
 -- What a parse found, by the walk of its command.
-use Rattle.std.proofs.Common.{◌≡◌, ◌≢◌, ◌<◌, inl, inr, List, [], ◌∷◌, length, Option, Some, None, IfNone, IfSome, refl, sym, ap, subst, ◌∙◌, codes, arith, Bool, true, false}
+use Rattle.std.proofs.Common.{◌≡◌, ◌≢◌, ◌<◌, inl, inr, List, [], ◌∷◌, length, Option, Some, None, IfNone, IfSome, refl, sym, ap, subst, ◌∙◌, codes, arith, true}
 use Rattle.clap.specs.Words.{App, Row, Text, fault_of, first_of, is_simple, is_simple_and_free, subcommand_of}
 use Rattle.hsr_cli.specs.Options.{Chosen, ChosenIn, IsBench, IsNode, IsRefused, IsTableChoice, IsTaken, Says, SaysNothing, silent_usage_in}
 use Rattle.hsr_cli.specs.Playing.{IsTable}
@@ -11,16 +11,11 @@ use Rattle.hsr_frame.specs.declared.node.Mode.TheVariants.{H, N, U}
 use Rattle.hsr_text.proofs.Units.{unit_again}
 use Rattle.hsr_text.specs.Moments.{unit_of, unit_word}
 use Rattle.hsr_text.specs.declared.time_unit.TimeUnit.{TimeUnit}
-use Rattle.hsr_table_size.specs.Sizes.{table_of}
 use Rattle.hsr_options.proofs.Roles.{role_again}
 use Rattle.hsr_options.specs.Roles.{node_role_of, node_role_word}
 use Rattle.hsr_options.specs.declared.role.NodeRole.{NodeRole}
 use Rattle.hsr_options.specs.declared.chosen.NodeOptions.{NodeOptions}
-use Rattle.hsr_options.specs.declared.chosen.Showing.{Showing}
-use Rattle.hsr_options.specs.declared.chosen.Form.{Form}
-use Rattle.hsr_options.specs.declared.chosen.Form.TheVariants.{Transcript, Report}
 use Rattle.hsr_table_size.specs.declared.size.TableSize.{TableSize}
-use Rattle.hsr_options.specs.declared.chosen.Asked.{Asked}
 use Rattle.hsr_options.specs.declared.chosen.TableChoice.{TableChoice}
 use Rattle.hsr_options.specs.declared.chosen.TableChoice.TheVariants.{Given, Told}
 use Rattle.hsr_options.specs.declared.chosen.Options.{Options}

@@ -1,32 +1,22 @@
 -- What the arguments of hsr_bench say: the values that clap's walk of this command finds.
-use Rattle.std.specs.Prelude.{◌≡◌, ◌≢◌, ◌⊎◌, ⊤, ℕ, Bool, true, false, List, [], ◌∷◌, map, Option, Some, None, option_map, Ok, codes, if◌then◌else◌}
+use Rattle.std.specs.Prelude.{◌≡◌, ◌≢◌, ◌⊎◌, ⊤, true, List, [], ◌∷◌, map, Option, Some, None, Ok, codes, if◌then◌else◌}
 use Rattle.std.specs.Str.{bytes_eq}
-use Rattle.std.specs.Borrow.{Bor}
-use Rattle.clap.specs.Words.{App, Row, Rule, Text, new_app, new_rule, with_rule, with_subcommand, subcommand_of, first_of, fault_of}
-use Rattle.clap.specs.declared.builder.ArgAction.TheVariants.{SetTrue}
-use Rattle.clap.specs.declared.builder.value_parser.ValueParser.TheVariants.{Names}
+use Rattle.clap.specs.Words.{App, Row, Rule, Text, new_app, with_rule, with_subcommand, subcommand_of, first_of, fault_of}
 use Rattle.hsr_frame.specs.Address.{address_of}
 use Rattle.hsr_frame.specs.Words.{mode_word}
 use Rattle.hsr_frame.specs.declared.node.Mode.TheVariants.{H, N, U}
 use Rattle.hsr_text.specs.Moments.{unit_word}
 use Rattle.hsr_text.specs.declared.time_unit.TimeUnit.TheVariants.{Milliseconds, Microseconds}
-use Rattle.hsr_table_size.specs.Sizes.{table_of, table_word, table_words}
-use Rattle.hsr_table_size.specs.declared.size.TableSize.{TableSize}
+use Rattle.hsr_table_size.specs.Sizes.{table_words}
 use Rattle.hsr_table_size.specs.declared.size.TableSize.TheVariants.{Large}
 use Rattle.hsr_options.specs.Roles.{node_role_word}
 use Rattle.hsr_options.specs.declared.chosen.NodeOptions.{NodeOptions}
 use Rattle.hsr_options.specs.declared.role.NodeRole.TheVariants.{Danh, RedBox, QuadBox}
-use Rattle.hsr_options.specs.declared.chosen.Showing.{Showing}
-use Rattle.hsr_options.specs.declared.chosen.Form.{Form}
-use Rattle.hsr_options.specs.declared.chosen.Form.TheVariants.{Transcript, Report}
-use Rattle.hsr_options.specs.declared.chosen.Scope.{Scope}
-use Rattle.hsr_options.specs.declared.chosen.Scope.TheVariants.{Ring, Network}
-use Rattle.hsr_options.specs.declared.chosen.Asked.{Asked}
 use Rattle.hsr_options.specs.declared.chosen.TableChoice.{TableChoice}
 use Rattle.hsr_options.specs.declared.chosen.TableChoice.TheVariants.{Given, Told}
 use Rattle.hsr_options.specs.declared.chosen.Options.{Options}
 use Rattle.hsr_options.specs.declared.chosen.Options.TheVariants.{Node, Run, Threads, Audit, Certify}
-use Rattle.hsr_cli.specs.Flags.{IsGiven, IsSet, Listed, flag_rule, word_rule}
+use Rattle.hsr_cli.specs.Flags.{IsGiven, IsSet, Listed, choice_rule, default_rule, flag_rule, word_rule}
 use Rattle.hsr_cli.specs.Playing.{IsAsked, IsScope, IsShowing, IsTable, ListsTables, playing_app, table_rule, with_folder, with_told}
 use Rattle.hsr_cli.specs.Within.{IsWithin}
 
@@ -47,19 +37,19 @@ ListsUnits units = map (λ s. s.now) units.now ≡ unit_word Milliseconds ∷ un
 
 -- `--role`, one of some names, with its default
 abbrev pub role_rule : Listed → Rule
-role_rule roles = record (new_rule (codes "role")) { long = Some (codes "role"); defaults = node_role_word Danh ∷ []; parser = Some (Names roles) }
+role_rule roles = choice_rule (codes "role") roles (node_role_word Danh)
 
 -- `--mac`, with its default
 abbrev pub mac_rule : Rule
-mac_rule = record (new_rule (codes "mac")) { long = Some (codes "mac"); defaults = codes "02-00-00-00-00-01" ∷ [] }
+mac_rule = default_rule (codes "mac") (codes "02-00-00-00-00-01")
 
 -- `--mode`, one of some names, with its default
 abbrev pub mode_rule : Listed → Rule
-mode_rule modes = record (new_rule (codes "mode")) { long = Some (codes "mode"); defaults = mode_word H ∷ []; parser = Some (Names modes) }
+mode_rule modes = choice_rule (codes "mode") modes (mode_word H)
 
 -- `--unit`, one of some names, with its default
 abbrev pub unit_rule : Listed → Rule
-unit_rule units = record (new_rule (codes "unit")) { long = Some (codes "unit"); defaults = unit_word Milliseconds ∷ []; parser = Some (Names units) }
+unit_rule units = choice_rule (codes "unit") units (unit_word Milliseconds)
 
 abbrev pub node_app : Listed → Listed → Listed → Listed → App
 node_app roles modes tables units =

@@ -1,7 +1,6 @@
 -- The options of a command that plays something, and what they choose to be shown of the run.
-use Rattle.std.specs.Prelude.{◌≡◌, Bool, true, false, [], ◌∷◌, map, Option, Some, codes}
-use Rattle.clap.specs.Words.{App, Rule, Text, new_app, new_rule, with_rule}
-use Rattle.clap.specs.declared.builder.value_parser.ValueParser.TheVariants.{Names}
+use Rattle.std.specs.Prelude.{◌≡◌, Bool, true, false, map, Option, Some, codes}
+use Rattle.clap.specs.Words.{App, Rule, Text, new_app, with_rule}
 use Rattle.hsr_table_size.specs.Sizes.{table_of, table_word, table_words}
 use Rattle.hsr_table_size.specs.declared.size.TableSize.{TableSize}
 use Rattle.hsr_table_size.specs.declared.size.TableSize.TheVariants.{Large}
@@ -11,7 +10,7 @@ use Rattle.hsr_options.specs.declared.chosen.Form.TheVariants.{Transcript, Repor
 use Rattle.hsr_options.specs.declared.chosen.Scope.{Scope}
 use Rattle.hsr_options.specs.declared.chosen.Scope.TheVariants.{Ring, Network}
 use Rattle.hsr_options.specs.declared.chosen.Asked.{Asked}
-use Rattle.hsr_cli.specs.Flags.{IsSet, Listed, flag_rule, word_rule}
+use Rattle.hsr_cli.specs.Flags.{IsSet, Listed, choice_rule, flag_rule, word_rule}
 
 -- ---- the command line
 
@@ -21,7 +20,7 @@ ListsTables tables = map (λ s. s.now) tables.now ≡ table_words
 
 -- `--table`, one of some names, with its default
 abbrev pub table_rule : Listed → Rule
-table_rule tables = record (new_rule (codes "table")) { long = Some (codes "table"); defaults = table_word Large ∷ []; parser = Some (Names tables) }
+table_rule tables = choice_rule (codes "table") tables (table_word Large)
 
 -- with the flags for the parts of a report
 abbrev pub with_asked : App → App

@@ -1,9 +1,9 @@
 -- What the options of `sweep` choose.
-use Rattle.std.specs.Prelude.{◌≡◌, ◌≤◌, ◌^◌, ◌==◌, ℕ, [], ◌∷◌, Option, Some, None, codes}
+use Rattle.std.specs.Prelude.{◌≡◌, ◌≤◌, ◌^◌, ◌==◌, ℕ, Option, Some, None, codes}
 use Rattle.std.specs.List.{after_first, before_first}
-use Rattle.clap.specs.Words.{App, Rule, Text, new_app, new_rule, with_rule}
+use Rattle.clap.specs.Words.{App, Rule, Text, new_app, with_rule}
 use Rattle.hsr_text.specs.Words.{decimal_of}
-use Rattle.hsr_cli.specs.Flags.{IsSet, flag_rule, word_rule}
+use Rattle.hsr_cli.specs.Flags.{IsSet, default_rule, flag_rule, word_rule}
 use Rattle.hsr_cli.specs.declared.task.Part.{Part}
 use Rattle.hsr_cli.specs.declared.task.SweepWords.{SweepWords}
 
@@ -11,7 +11,7 @@ use Rattle.hsr_cli.specs.declared.task.SweepWords.{SweepWords}
 
 -- `--at-us`, with its default
 abbrev pub at_rule : Rule
-at_rule = record (new_rule (codes "at-us")) { long = Some (codes "at-us"); defaults = codes "0" ∷ [] }
+at_rule = default_rule (codes "at-us") (codes "0")
 
 -- with the limits that its verdict may have
 abbrev pub with_limits : App → App

@@ -6,23 +6,24 @@ ghost use Rattle.hsr_frame.specs.Words.{mode_word};
 ghost use Rattle.hsr_text.specs.Moments.{unit_word};
 ghost use Rattle.hsr_table_size.specs.Sizes.{table_words};
 ghost use Rattle.hsr_options.specs.Roles.{node_role_word};
-ghost use Rattle.clap.specs.Words.{Text, app_of, first_value, found_of, kind_of, new_app, rule_of, subcommand_rows_of, with_rule};
+ghost use Rattle.clap.specs.Words.{Text, app_of, first_value, found_of, kind_of, subcommand_rows_of, with_subcommand};
 ghost use Rattle.clap.specs.declared.builder.Command.TheViews.{out-Command as fields_of};
 ghost use Rattle.clap.specs.declared.error.kind.ErrorKind.TheVariants.{OutOfMemory};
+ghost use Rattle.hsr_cli.specs.Playing.{playing_app};
 ghost use Rattle.hsr_cli.specs.Refusal.{IfUsage};
-ghost use Rattle.hsr_cli.specs.Options.{Chosen, ChosenIn, IsNode, IsRefused, IsTableChoice, IsTaken, Says, SaysNothing, ListsChoices, ListsModes, ListsRoles, ListsUnits, audit_app, bench_app, certify_app, mac_rule, mode_rule, node_app, role_rule, run_app, silent_usage, silent_usage_in, top_app, unit_rule};
+ghost use Rattle.hsr_cli.specs.Options.{Chosen, ChosenIn, IsNode, IsRefused, IsTableChoice, IsTaken, Says, SaysNothing, ListsChoices, ListsModes, ListsRoles, ListsUnits, audit_app, bench_app, certify_app, node_app, run_app, silent_usage, silent_usage_in, top_app};
 
 use crate::bench_help::{
     AUDIT_ENDS, CERTIFY_ABOUT, CERTIFY_ENDS, CHOICE_HELP, COARSE_HELP, NAMES_HELP, NODE_LINES,
     RUN_ABOUT, RUN_ENDS, TABLE_HELP, THREADS_ABOUT, THREADS_ENDS, WITHIN_HELP,
 };
 use crate::fault::{OptionFault, refused, usage};
-use crate::flags::{flag_of, with_flag, word_arg};
+use crate::flags::{ended_command, flag_of, with_choice, with_default, with_flag, with_word};
 use crate::playing::{
-    asked_of, playing_command, scope_of, showing_of, table_arg, table_of, tables, tabling, telling,
+    asked_of, playing_command, scope_of, showing_of, table_of, tables, tabling, telling, with_table,
 };
 use crate::within::within_of;
-use clap::{Arg, ArgAction, ArgMatches, Command};
+use clap::{ArgMatches, Command};
 use hsr_frame::{Mac, Mode, NoMemory};
 use hsr_options::{NodeOptions, NodeRole, Options, TableChoice};
 use hsr_table_size::{TableSize, table_words};
@@ -41,78 +42,6 @@ const NO_WITHIN: &str = "\
 usage: --within
 explain: --within takes how many microseconds after its send a copy may be under way: a number from 1 to 400000";
 
-fn role_arg<'a>(alloc: Global, roles: &'a [&'a str]) -> Arg<'a>
-    ensures rule { rule_of result ≡ role_rule roles.entry }
-    ensures own { result.global ≡ false }
-{
-    Arg::new(alloc, "role")
-        .long("role")
-        .help("The kind of node")
-        .value_parser(roles)
-        .default_value(NodeRole::Danh.word())
-}
-
-fn mac_arg<'a>(alloc: Global) -> Arg<'a>
-    ensures rule { rule_of result ≡ mac_rule }
-    ensures own { result.global ≡ false }
-{
-    Arg::new(alloc, "mac")
-        .long("mac")
-        .help("The node's address, which is no group's; a quadbox has none")
-        // The 2 says that the address is locally administered (IEEE 802 clause 8).
-        .default_value("02-00-00-00-00-01")
-}
-
-fn mode_arg<'a>(alloc: Global, modes: &'a [&'a str]) -> Arg<'a>
-    ensures rule { rule_of result ≡ mode_rule modes.entry }
-    ensures own { result.global ≡ false }
-{
-    Arg::new(alloc, "mode")
-        .long("mode")
-        .help("Forwards round the ring (H), not (N), or what it delivers too (U)")
-        .value_parser(modes)
-        .default_value(Mode::H.word())
-}
-
-fn unit_arg<'a>(alloc: Global, units: &'a [&'a str]) -> Arg<'a>
-    ensures rule { rule_of result ≡ unit_rule units.entry }
-    ensures own { result.global ≡ false }
-{
-    Arg::new(alloc, "unit")
-        .long("unit")
-        .help("The unit of moments: milliseconds (ms) or microseconds (us)")
-        .value_parser(units)
-        .default_value(TimeUnit::Milliseconds.word())
-}
-
-/// The command `node` with the options for the node's kind and address.
-fn node_named<'a>(alloc: Global, roles: &'a [&'a str]) -> Result<Command<'a>, NoMemory>
-    ensures app { IfOk result (λ c. app_of c
-        ≡ with_rule (with_rule (new_app (codes "node")) (role_rule roles.entry)) mac_rule) }
-    ensures own { IfOk result (λ c. (fields_of c).has_globals ≡ false) }
-{
-    let command = Command::new(alloc, "node")
-        .about("Answers lines of standard input as one node: a DANH, a RedBox or a QuadBox")
-        .after_help(NODE_LINES)
-        .arg(role_arg(alloc, roles))?
-        .arg(mac_arg(alloc))?;
-    Ok(command)
-}
-
-/// That command, with the option for the node's mode too.
-fn node_placed<'a>(
-    alloc: Global,
-    roles: &'a [&'a str],
-    modes: &'a [&'a str],
-) -> Result<Command<'a>, NoMemory>
-    ensures app { IfOk result (λ c. app_of c
-        ≡ with_rule (with_rule (with_rule (new_app (codes "node")) (role_rule roles.entry)) mac_rule) (mode_rule modes.entry)) }
-    ensures own { IfOk result (λ c. (fields_of c).has_globals ≡ false) }
-{
-    let command = node_named(alloc, roles)?.arg(mode_arg(alloc, modes))?;
-    Ok(command)
-}
-
 fn node_command<'a>(
     alloc: Global,
     roles: &'a [&'a str],
@@ -124,10 +53,25 @@ fn node_command<'a>(
         ≡ node_app roles.entry modes.entry tables.entry units.entry) }
     ensures own { IfOk result (λ c. (fields_of c).has_globals ≡ false) }
 {
-    let command = node_placed(alloc, roles, modes)?
-        .arg(table_arg(alloc, TABLE_HELP, tables))?
-        .arg(unit_arg(alloc, units))?;
-    Ok(command)
+    let about = "Answers lines of standard input as one node: a DANH, a RedBox or a QuadBox";
+    let role = "The kind of node";
+    let mac = "The node's address, which is no group's; a quadbox has none";
+    let mode = "Forwards round the ring (H), not (N), or what it delivers too (U)";
+    let unit = "The unit of moments: milliseconds (ms) or microseconds (us)";
+    let bare = ended_command(alloc, "node", about, NODE_LINES);
+    let one = with_choice(alloc, bare, "role", roles, NodeRole::Danh.word(), role)?;
+    // The 2 says that the address is locally administered (IEEE 802 clause 8).
+    let two = with_default(alloc, one, "mac", "02-00-00-00-00-01", mac)?;
+    let three = with_choice(alloc, two, "mode", modes, Mode::H.word(), mode)?;
+    let four = with_table(alloc, three, tables, TABLE_HELP)?;
+    with_choice(
+        alloc,
+        four,
+        "unit",
+        units,
+        TimeUnit::Milliseconds.word(),
+        unit,
+    )
 }
 
 /// The command `run`, which may show a run that can't be closed.
@@ -144,13 +88,13 @@ fn audit_command<'a>(alloc: Global, choices: &'a [&'a str]) -> Result<Command<'a
     ensures app { IfOk result (λ c. app_of c ≡ audit_app choices.entry) }
     ensures own { IfOk result (λ c. (fields_of c).has_globals ≡ false) }
 {
-    let command = Command::new(alloc, "audit")
-        .about("Audits the transcript on standard input, and reports whether it certifies delivery")
-        .after_help(AUDIT_ENDS)
-        .arg(table_arg(alloc, CHOICE_HELP, choices))?;
-    let one = telling(alloc, command)?;
-    let two = one.arg(word_arg(alloc, "names", "FILE", NAMES_HELP))?;
-    tabling(alloc, two)
+    let about =
+        "Audits the transcript on standard input, and reports whether it certifies delivery";
+    let bare = ended_command(alloc, "audit", about, AUDIT_ENDS);
+    let one = with_table(alloc, bare, choices, CHOICE_HELP)?;
+    let two = telling(alloc, one)?;
+    let three = with_word(alloc, two, "names", "FILE", NAMES_HELP)?;
+    tabling(alloc, three)
 }
 
 /// The command `certify`, which plays nothing.
@@ -158,12 +102,10 @@ fn certify_command<'a>(alloc: Global, tables: &'a [&'a str]) -> Result<Command<'
     ensures app { IfOk result (λ c. app_of c ≡ certify_app tables.entry) }
     ensures own { IfOk result (λ c. (fields_of c).has_globals ≡ false) }
 {
-    let command = Command::new(alloc, "certify")
-        .about(CERTIFY_ABOUT)
-        .after_help(CERTIFY_ENDS)
-        .arg(table_arg(alloc, TABLE_HELP, tables))?;
-    let one = command.arg(word_arg(alloc, "within", "US", WITHIN_HELP))?;
-    with_flag(alloc, one, "coarse", COARSE_HELP)
+    let bare = ended_command(alloc, "certify", CERTIFY_ABOUT, CERTIFY_ENDS);
+    let one = with_table(alloc, bare, tables, TABLE_HELP)?;
+    let two = with_word(alloc, one, "within", "US", WITHIN_HELP)?;
+    with_flag(alloc, two, "coarse", COARSE_HELP)
 }
 
 fn top_command<'a>(alloc: Global) -> Result<Command<'a>, NoMemory>
@@ -179,6 +121,75 @@ fn top_command<'a>(alloc: Global) -> Result<Command<'a>, NoMemory>
     Ok(command)
 }
 
+// Each subcommand is made where it is put on: of many commands that are held at once the proof takes long.
+fn with_node<'a>(
+    alloc: Global,
+    top: Command<'a>,
+    roles: &'a [&'a str],
+    modes: &'a [&'a str],
+    tables: &'a [&'a str],
+    units: &'a [&'a str],
+) -> Result<Command<'a>, NoMemory>
+    ensures { IfOk result (λ c. app_of c ≡ with_subcommand (app_of top.entry)
+        (node_app roles.entry modes.entry tables.entry units.entry).top) }
+{
+    let node = node_command(alloc, roles, modes, tables, units)?;
+    let whole = top.subcommand(node)?;
+    Ok(whole)
+}
+
+fn with_run<'a>(
+    alloc: Global,
+    top: Command<'a>,
+    tables: &'a [&'a str],
+) -> Result<Command<'a>, NoMemory>
+    ensures { IfOk result (λ c. app_of c ≡ with_subcommand (app_of top.entry)
+        (run_app tables.entry).top) }
+{
+    let run = run_command(alloc, tables)?;
+    let whole = top.subcommand(run)?;
+    Ok(whole)
+}
+
+fn with_threads<'a>(
+    alloc: Global,
+    top: Command<'a>,
+    tables: &'a [&'a str],
+) -> Result<Command<'a>, NoMemory>
+    ensures { IfOk result (λ c. app_of c ≡ with_subcommand (app_of top.entry)
+        (playing_app (codes "threads") tables.entry).top) }
+{
+    let threads = playing_command(alloc, "threads", THREADS_ABOUT, THREADS_ENDS, tables)?;
+    let whole = top.subcommand(threads)?;
+    Ok(whole)
+}
+
+fn with_audit<'a>(
+    alloc: Global,
+    top: Command<'a>,
+    choices: &'a [&'a str],
+) -> Result<Command<'a>, NoMemory>
+    ensures { IfOk result (λ c. app_of c ≡ with_subcommand (app_of top.entry)
+        (audit_app choices.entry).top) }
+{
+    let audit = audit_command(alloc, choices)?;
+    let whole = top.subcommand(audit)?;
+    Ok(whole)
+}
+
+fn with_certify<'a>(
+    alloc: Global,
+    top: Command<'a>,
+    tables: &'a [&'a str],
+) -> Result<Command<'a>, NoMemory>
+    ensures { IfOk result (λ c. app_of c ≡ with_subcommand (app_of top.entry)
+        (certify_app tables.entry).top) }
+{
+    let certify = certify_command(alloc, tables)?;
+    let whole = top.subcommand(certify)?;
+    Ok(whole)
+}
+
 fn bench_command<'a>(
     alloc: Global,
     roles: &'a [&'a str],
@@ -190,18 +201,12 @@ fn bench_command<'a>(
     ensures { IfOk result (λ c. app_of c
         ≡ bench_app roles.entry modes.entry tables.entry choices.entry units.entry) }
 {
-    let node = node_command(alloc, roles, modes, tables, units)?;
-    let run = run_command(alloc, tables)?;
-    let threads = playing_command(alloc, "threads", THREADS_ABOUT, THREADS_ENDS, tables)?;
-    let audit = audit_command(alloc, choices)?;
-    let certify = certify_command(alloc, tables)?;
     let top = top_command(alloc)?;
-    let one = top.subcommand(node)?;
-    let two = one.subcommand(run)?;
-    let three = two.subcommand(threads)?;
-    let four = three.subcommand(audit)?;
-    let five = four.subcommand(certify)?;
-    Ok(five)
+    let one = with_node(alloc, top, roles, modes, tables, units)?;
+    let two = with_run(alloc, one, tables)?;
+    let three = with_threads(alloc, two, tables)?;
+    let four = with_audit(alloc, three, choices)?;
+    with_certify(alloc, four, tables)
 }
 
 /// Which size of tables an audit takes.
@@ -282,8 +287,86 @@ fn node_options(matches: &ArgMatches<'_>) -> Option<NodeOptions>
     })
 }
 
+/// The options of `run`.
+#[tactic(auto, using(crate::proofs::BenchFound::no_run))]
+fn run_of<'a>(matches: &ArgMatches<'a>) -> Option<Options<'a>>
+    ensures found { IfSome result (Chosen (codes "run") (first_value (found_of matches.now))) }
+    ensures none { IfNone result ((o : Options)
+        → ¬ Chosen (codes "run") (first_value (found_of matches.now)) o) }
+{
+    let table = table_of(matches)?;
+    let showing = showing_of(matches)?;
+    let folder = matches.get_str("csv");
+    let shows_open = flag_of(matches, "open")?;
+    let explains = flag_of(matches, "explain")?;
+    Some(Options::Run {
+        table,
+        showing,
+        folder,
+        shows_open,
+        explains,
+    })
+}
+
+/// The options of `threads`.
+#[tactic(auto, using(crate::proofs::BenchFound::no_threads))]
+fn threads_of<'a>(matches: &ArgMatches<'a>) -> Option<Options<'a>>
+    ensures found { IfSome result (Chosen (codes "threads") (first_value (found_of matches.now))) }
+    ensures none { IfNone result ((o : Options)
+        → ¬ Chosen (codes "threads") (first_value (found_of matches.now)) o) }
+{
+    let table = table_of(matches)?;
+    let showing = showing_of(matches)?;
+    let folder = matches.get_str("csv");
+    let explains = flag_of(matches, "explain")?;
+    Some(Options::Threads {
+        table,
+        showing,
+        folder,
+        explains,
+    })
+}
+
+/// The options of `audit`.
+fn audit_of<'a>(matches: &ArgMatches<'a>) -> Option<Options<'a>>
+    ensures found { IfSome result (Chosen (codes "audit") (first_value (found_of matches.now))) }
+    ensures none { IfNone result ((o : Options)
+        → ¬ Chosen (codes "audit") (first_value (found_of matches.now)) o) }
+{
+    let table = choice_of(matches)?;
+    let scope = scope_of(matches)?;
+    let asked = asked_of(matches)?;
+    let scenario = matches.get_str("names");
+    let folder = matches.get_str("csv");
+    let explains = flag_of(matches, "explain")?;
+    Some(Options::Audit {
+        table,
+        scope,
+        asked,
+        scenario,
+        folder,
+        explains,
+    })
+}
+
+/// The options of `certify`.
+#[tactic(auto, using(crate::proofs::BenchFound::no_certify))]
+fn certify_of<'a>(matches: &ArgMatches<'a>) -> Option<Options<'a>>
+    ensures found { IfSome result (Chosen (codes "certify") (first_value (found_of matches.now))) }
+    ensures none { IfNone result ((o : Options)
+        → ¬ Chosen (codes "certify") (first_value (found_of matches.now)) o) }
+{
+    let table = table_of(matches)?;
+    let within = within_of(matches.get_str("within"))?;
+    let is_coarse = flag_of(matches, "coarse")?;
+    Some(Options::Certify {
+        table,
+        within,
+        is_coarse,
+    })
+}
+
 /// The options of a subcommand.
-#[tactic(auto, using(crate::proofs::BenchFound::no_run, crate::proofs::BenchFound::no_threads, crate::proofs::BenchFound::no_certify))]
 fn options_of<'a>(name: &str, matches: &ArgMatches<'a>) -> Option<Options<'a>>
     ensures found { IfSome result (Chosen name.now (first_value (found_of matches.now))) }
     ensures none { IfNone result ((o : Options)
@@ -291,58 +374,10 @@ fn options_of<'a>(name: &str, matches: &ArgMatches<'a>) -> Option<Options<'a>>
 {
     match name {
         "node" => Some(Options::Node(node_options(matches)?)),
-        "run" => {
-            let table = table_of(matches)?;
-            let showing = showing_of(matches)?;
-            let folder = matches.get_str("csv");
-            let shows_open = flag_of(matches, "open")?;
-            let explains = flag_of(matches, "explain")?;
-            Some(Options::Run {
-                table,
-                showing,
-                folder,
-                shows_open,
-                explains,
-            })
-        }
-        "threads" => {
-            let table = table_of(matches)?;
-            let showing = showing_of(matches)?;
-            let folder = matches.get_str("csv");
-            let explains = flag_of(matches, "explain")?;
-            Some(Options::Threads {
-                table,
-                showing,
-                folder,
-                explains,
-            })
-        }
-        "audit" => {
-            let table = choice_of(matches)?;
-            let scope = scope_of(matches)?;
-            let asked = asked_of(matches)?;
-            let scenario = matches.get_str("names");
-            let folder = matches.get_str("csv");
-            let explains = flag_of(matches, "explain")?;
-            Some(Options::Audit {
-                table,
-                scope,
-                asked,
-                scenario,
-                folder,
-                explains,
-            })
-        }
-        "certify" => {
-            let table = table_of(matches)?;
-            let within = within_of(matches.get_str("within"))?;
-            let is_coarse = flag_of(matches, "coarse")?;
-            Some(Options::Certify {
-                table,
-                within,
-                is_coarse,
-            })
-        }
+        "run" => run_of(matches),
+        "threads" => threads_of(matches),
+        "audit" => audit_of(matches),
+        "certify" => certify_of(matches),
         _ => None,
     }
 }

@@ -1,19 +1,20 @@
 //! Reads the arguments of hsr_plan, by clap.
 ghost use Rattle.std.specs.Prelude.{◌≡◌, ◌≢◌, ◌<◌, ◌≤◌, IfErr, IfNone, IfOk, IfSome, IsTrue, Some, None, codes, false, length, map, option_map};
 ghost use Rattle.std.specs.Str.{trim_end};
-ghost use Rattle.clap.specs.Words.{Text, app_of, first_value, found_of, kind_of, new_app, rule_of, subcommand_rows_of, with_rule};
+ghost use Rattle.clap.specs.Words.{Text, app_of, first_value, found_of, kind_of, rule_of, subcommand_rows_of, with_rule, with_subcommand};
 ghost use Rattle.clap.specs.declared.builder.command.Command.TheViews.{out-Command as fields_of};
 ghost use Rattle.clap.specs.declared.error.kind.ErrorKind.TheVariants.{OutOfMemory};
 ghost use Rattle.hsr_cli.specs.declared.task.Task.{Task as TaskOf};
 ghost use Rattle.hsr_cli.specs.declared.task.Faults.{Faults as FaultsOf};
-ghost use Rattle.hsr_cli.specs.Flags.{flag_rule, word_rule};
 ghost use Rattle.hsr_cli.specs.Playing.{playing_app};
 ghost use Rattle.hsr_cli.specs.Refusal.{IfUsage};
+ghost use Rattle.hsr_cli.specs.Reporting.{report_app};
+ghost use Rattle.hsr_cli.specs.Sweeping.{sweep_app};
 ghost use Rattle.hsr_cli.specs.Choices.{Chosen, ChosenAlone, ChosenBefore, IsCertify, IsFaults, IsRefused, IsRun, IsTable, Says, alone_app, certify_app, plan_app, sub_values, table_rule, top_app};
 
 use crate::bench_help::WITHIN_HELP;
 use crate::fault::{OptionFault, refused, usage};
-use crate::flags::{flag_arg, flag_of, word_arg};
+use crate::flags::{bare_command, flag_of, with_flag, with_word};
 use crate::plan_help::{ANY_TABLE_HELP, ENDS, RUN_ABOUT, RUN_ENDS, TABLE_HELP};
 use crate::playing;
 use crate::playing::{playing_command, showing_of, tables};
@@ -47,41 +48,34 @@ fn table_arg<'a>(alloc: Global, help: &'a str, tables: &'a [&'a str]) -> Arg<'a>
         .value_parser(tables)
 }
 
-fn check_arg<'a>(alloc: Global) -> Arg<'a>
-    ensures rule { rule_of result ≡ flag_rule (codes "check") }
-    ensures own { result.global ≡ false }
-{
-    flag_arg(
-        alloc,
-        "check",
-        "Says of a scenario in which line and column which word is wrong, and what is allowed there",
-    )
-}
-
-/// The command `certify` with the options for tables and for the bound of spans.
-fn certify_bounded<'a>(alloc: Global, tables: &'a [&'a str]) -> Result<Command<'a>, NoMemory>
-    ensures app { IfOk result (λ c. app_of c
-        ≡ with_rule (with_rule (new_app (codes "certify")) (table_rule tables.entry)) (word_rule (codes "within"))) }
+/// A command, with the option for the size of tables.
+fn with_table<'a>(
+    alloc: Global,
+    command: Command<'a>,
+    tables: &'a [&'a str],
+    help: &'a str,
+) -> Result<Command<'a>, NoMemory>
+    requires own { (fields_of command).has_globals ≡ false }
+    ensures app { IfOk result (λ c. app_of c ≡ with_rule (app_of command.entry)
+        (table_rule tables.entry)) }
     ensures own { IfOk result (λ c. (fields_of c).has_globals ≡ false) }
 {
-    let command = Command::new(alloc, "certify")
-        .about("Says of a plan whether it certifies delivery in any order of its copies")
-        .arg(table_arg(alloc, ANY_TABLE_HELP, tables))?
-        .arg(word_arg(alloc, "within", "US", WITHIN_HELP))?;
-    Ok(command)
+    Ok(command.arg(table_arg(alloc, help, tables))?)
 }
 
 fn certify_command<'a>(alloc: Global, tables: &'a [&'a str]) -> Result<Command<'a>, NoMemory>
     ensures app { IfOk result (λ c. app_of c ≡ certify_app tables.entry) }
     ensures own { IfOk result (λ c. (fields_of c).has_globals ≡ false) }
 {
+    let about = "Says of a plan whether it certifies delivery in any order of its copies";
     let sweep = "Says it for each link and each node off from the start too";
     let pairs =
         "Says it for each link and each node off from the start, and for each two of them too";
-    let command = certify_bounded(alloc, tables)?
-        .arg(flag_arg(alloc, "sweep", sweep))?
-        .arg(flag_arg(alloc, "pairs", pairs))?;
-    Ok(command)
+    let bare = bare_command(alloc, "certify", about);
+    let one = with_table(alloc, bare, tables, ANY_TABLE_HELP)?;
+    let two = with_word(alloc, one, "within", "US", WITHIN_HELP)?;
+    let three = with_flag(alloc, two, "sweep", sweep)?;
+    with_flag(alloc, three, "pairs", pairs)
 }
 
 fn top_command<'a>(alloc: Global) -> Command<'a>
@@ -99,24 +93,63 @@ fn top_command<'a>(alloc: Global) -> Command<'a>
 fn alone_command<'a>(alloc: Global, tables: &'a [&'a str]) -> Result<Command<'a>, NoMemory>
     ensures { IfOk result (λ c. app_of c ≡ alone_app tables.entry) }
 {
-    let one = top_command(alloc).arg(table_arg(alloc, TABLE_HELP, tables))?;
-    let two = one.arg(check_arg(alloc))?;
-    Ok(two)
+    let check =
+        "Says of a scenario in which line and column which word is wrong, and what is allowed there";
+    let one = with_table(alloc, top_command(alloc), tables, TABLE_HELP)?;
+    with_flag(alloc, one, "check", check)
+}
+
+// Each subcommand is made where it is put on: of many commands that are held at once the proof takes long.
+fn with_run<'a>(
+    alloc: Global,
+    alone: Command<'a>,
+    tables: &'a [&'a str],
+) -> Result<Command<'a>, NoMemory>
+    ensures { IfOk result (λ c. app_of c ≡ with_subcommand (app_of alone.entry)
+        (playing_app (codes "run") tables.entry).top) }
+{
+    let run = playing_command(alloc, "run", RUN_ABOUT, RUN_ENDS, tables)?;
+    let whole = alone.subcommand(run)?;
+    Ok(whole)
+}
+
+fn with_sweep<'a>(alloc: Global, alone: Command<'a>) -> Result<Command<'a>, NoMemory>
+    ensures { IfOk result (λ c. app_of c ≡ with_subcommand (app_of alone.entry) sweep_app.top) }
+{
+    let sweep = sweep_command(alloc)?;
+    let whole = alone.subcommand(sweep)?;
+    Ok(whole)
+}
+
+fn with_certify<'a>(
+    alloc: Global,
+    alone: Command<'a>,
+    tables: &'a [&'a str],
+) -> Result<Command<'a>, NoMemory>
+    ensures { IfOk result (λ c. app_of c ≡ with_subcommand (app_of alone.entry)
+        (certify_app tables.entry).top) }
+{
+    let certify = certify_command(alloc, tables)?;
+    let whole = alone.subcommand(certify)?;
+    Ok(whole)
+}
+
+fn with_report<'a>(alloc: Global, alone: Command<'a>) -> Result<Command<'a>, NoMemory>
+    ensures { IfOk result (λ c. app_of c ≡ with_subcommand (app_of alone.entry) report_app.top) }
+{
+    let report = report_command(alloc)?;
+    let whole = alone.subcommand(report)?;
+    Ok(whole)
 }
 
 fn plan_command<'a>(alloc: Global, tables: &'a [&'a str]) -> Result<Command<'a>, NoMemory>
     ensures { IfOk result (λ c. app_of c ≡ plan_app tables.entry) }
 {
-    let run = playing_command(alloc, "run", RUN_ABOUT, RUN_ENDS, tables)?;
-    let sweep = sweep_command(alloc)?;
-    let certify = certify_command(alloc, tables)?;
-    let report = report_command(alloc)?;
     let alone = alone_command(alloc, tables)?;
-    let one = alone.subcommand(run)?;
-    let two = one.subcommand(sweep)?;
-    let three = two.subcommand(certify)?;
-    let four = three.subcommand(report)?;
-    Ok(four)
+    let one = with_run(alloc, alone, tables)?;
+    let two = with_sweep(alloc, one)?;
+    let three = with_certify(alloc, two, tables)?;
+    with_report(alloc, three)
 }
 
 /// The tables that the values name: large, where they don't say.

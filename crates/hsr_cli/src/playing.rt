@@ -2,13 +2,13 @@
 ghost use Rattle.std.specs.Prelude.{◌≡◌, ◌≢◌, IfNone, IfOk, IfSome, false};
 ghost use Rattle.std.specs.Prelude.{map};
 ghost use Rattle.hsr_table_size.specs.Sizes.{table_words};
-ghost use Rattle.clap.specs.Words.{app_of, first_value, found_of, new_app, rule_of};
+ghost use Rattle.clap.specs.Words.{app_of, first_value, found_of, new_app, with_rule};
 ghost use Rattle.clap.specs.declared.builder.Command.TheViews.{out-Command as fields_of};
 ghost use Rattle.hsr_cli.specs.Playing.{IsAsked, IsForm, IsScope, IsShowing, IsTable, ListsTables, playing_app, table_rule, with_asked, with_folder, with_told};
 
 use crate::bench_help::TABLE_HELP;
-use crate::flags::{flag_of, with_flag, word_arg};
-use clap::{Arg, ArgMatches, Command};
+use crate::flags::{ended_command, flag_of, with_choice, with_flag, with_word};
+use clap::{ArgMatches, Command};
 use hsr_frame::NoMemory;
 use hsr_options::{Asked, Form, Scope, Showing};
 use hsr_table_size::{TableSize, table_words};
@@ -24,15 +24,26 @@ pub(crate) fn tables() -> &'static [&'static str]
     &table_words!()
 }
 
-pub(crate) fn table_arg<'a>(alloc: Global, help: &'a str, tables: &'a [&'a str]) -> Arg<'a>
-    ensures rule { rule_of result ≡ table_rule tables.entry }
-    ensures own { result.global ≡ false }
+/// A command, with the option for the size of tables.
+pub(crate) fn with_table<'a>(
+    alloc: Global,
+    command: Command<'a>,
+    tables: &'a [&'a str],
+    help: &'a str,
+) -> Result<Command<'a>, NoMemory>
+    requires own { (fields_of command).has_globals ≡ false }
+    ensures app { IfOk result (λ c. app_of c ≡ with_rule (app_of command.entry)
+        (table_rule tables.entry)) }
+    ensures own { IfOk result (λ c. (fields_of c).has_globals ≡ false) }
 {
-    Arg::new(alloc, "table")
-        .long("table")
-        .help(help)
-        .value_parser(tables)
-        .default_value(TableSize::Large.word())
+    with_choice(
+        alloc,
+        command,
+        "table",
+        tables,
+        TableSize::Large.word(),
+        help,
+    )
 }
 
 /// A command, with the flags for the parts of a report.
@@ -75,7 +86,7 @@ pub(crate) fn tabling<'a>(alloc: Global, command: Command<'a>) -> Result<Command
 {
     let csv =
         "Writes the run's facts as tables (CSV) into this folder too: nodes.csv, links.csv, ..";
-    Ok(command.arg(word_arg(alloc, "csv", "FOLDER", csv))?)
+    with_word(alloc, command, "csv", "FOLDER", csv)
 }
 
 /// A command that plays a scenario.
@@ -91,12 +102,12 @@ pub(crate) fn playing_command<'a>(
 {
     let transcript = "Writes the run's transcript in place of its report";
     let names = "Has the names of the scenario's nodes and streams in place of numbers";
-    let command = Command::new(alloc, name)
-        .about(about)
-        .after_help(ends)
-        .arg(table_arg(alloc, TABLE_HELP, tables))?;
-    let one = telling(alloc, with_flag(alloc, command, "transcript", transcript)?)?;
-    tabling(alloc, with_flag(alloc, one, "names", names)?)
+    let bare = ended_command(alloc, name, about, ends);
+    let one = with_table(alloc, bare, tables, TABLE_HELP)?;
+    let two = with_flag(alloc, one, "transcript", transcript)?;
+    let three = telling(alloc, two)?;
+    let four = with_flag(alloc, three, "names", names)?;
+    tabling(alloc, four)
 }
 
 // ---- what is chosen

@@ -1,17 +1,16 @@
 //! The options of `sweep`, and what they choose.
-ghost use Rattle.std.specs.Prelude.{◌≡◌, ◌==◌, IfNone, IfOk, IfSome, Option, Some, codes, false, option_map};
+ghost use Rattle.std.specs.Prelude.{◌≡◌, ◌==◌, IfNone, IfOk, IfSome, Option, Some, false, option_map};
 ghost use Rattle.std.specs.List.{after_first, before_first};
-ghost use Rattle.clap.specs.Words.{app_of, first_value, found_of, new_app, rule_of, with_rule};
+ghost use Rattle.clap.specs.Words.{app_of, first_value, found_of, with_rule};
 ghost use Rattle.clap.specs.declared.builder.Command.TheViews.{out-Command as fields_of};
 ghost use Rattle.hsr_text.specs.Words.{decimal_of};
 ghost use Rattle.hsr_cli.specs.declared.task.Part.{Part as PartOf};
 ghost use Rattle.hsr_cli.specs.declared.task.SweepWords.{SweepWords as SweepOf};
-ghost use Rattle.hsr_cli.specs.Flags.{flag_rule, word_rule};
 ghost use Rattle.hsr_cli.specs.Sweeping.{IsLimit, IsMoment, IsPart, IsSweep, at_rule, sweep_app, with_limits};
 
-use crate::flags::{flag_of, with_flag, with_word};
+use crate::flags::{bare_command, flag_of, with_default, with_flag, with_word};
 use crate::task::{Part, SweepWords};
-use clap::{Arg, ArgMatches, Command};
+use clap::{ArgMatches, Command};
 use hsr_frame::NoMemory;
 use hsr_text::decimal;
 use std::alloc::Global;
@@ -21,14 +20,14 @@ const LAST: u64 = 1 << 40;
 
 // ---- the command line
 
-pub(crate) fn at_arg<'a>(alloc: Global) -> Arg<'a>
-    ensures rule { rule_of result ≡ at_rule }
-    ensures own { result.global ≡ false }
+/// A command, with the option for the moment from which on links and nodes are off.
+pub(crate) fn with_moment<'a>(alloc: Global, command: Command<'a>) -> Result<Command<'a>, NoMemory>
+    requires own { (fields_of command).has_globals ≡ false }
+    ensures app { IfOk result (λ c. app_of c ≡ with_rule (app_of command.entry) at_rule) }
+    ensures own { IfOk result (λ c. (fields_of c).has_globals ≡ false) }
 {
-    Arg::new(alloc, "at-us")
-        .long("at-us")
-        .help("From which moment on links and nodes are off, in microseconds")
-        .default_value("0")
+    let at = "From which moment on links and nodes are off, in microseconds";
+    with_default(alloc, command, "at-us", "0", at)
 }
 
 /// A command, with the options for the limits of a sweep.
@@ -43,28 +42,19 @@ pub(crate) fn limiting<'a>(alloc: Global, command: Command<'a>) -> Result<Comman
     with_word(alloc, one, "limit-latency", "US", latency)
 }
 
-/// The command `sweep` with the option for the moment.
-fn sweep_from<'a>(alloc: Global) -> Result<Command<'a>, NoMemory>
-    ensures app { IfOk result (λ c. app_of c ≡ with_rule (new_app (codes "sweep")) at_rule) }
-    ensures own { IfOk result (λ c. (fields_of c).has_globals ≡ false) }
-{
-    let command = Command::new(alloc, "sweep")
-        .about("Runs a plan with each link and each node off, one by one")
-        .arg(at_arg(alloc))?;
-    Ok(command)
-}
-
 pub(crate) fn sweep_command<'a>(alloc: Global) -> Result<Command<'a>, NoMemory>
     ensures app { IfOk result (λ c. app_of c ≡ sweep_app) }
     ensures own { IfOk result (λ c. (fields_of c).has_globals ≡ false) }
 {
+    let about = "Runs a plan with each link and each node off, one by one";
     let without = "Leaves the plan's own events out";
     let pairs = "Has each two of them off at once too";
     let part = "Runs each N-th case alone, from the K-th on";
-    let one = with_flag(alloc, sweep_from(alloc)?, "without-events", without)?;
-    let two = with_flag(alloc, one, "pairs", pairs)?;
-    let three = with_word(alloc, two, "part", "K/N", part)?;
-    limiting(alloc, three)
+    let one = with_moment(alloc, bare_command(alloc, "sweep", about))?;
+    let two = with_flag(alloc, one, "without-events", without)?;
+    let three = with_flag(alloc, two, "pairs", pairs)?;
+    let four = with_word(alloc, three, "part", "K/N", part)?;
+    limiting(alloc, four)
 }
 
 // ---- what is chosen

@@ -1,4 +1,4 @@
-use Rattle.std.proofs.Common.{◌≡◌, ◌∙◌, IfOk, ap, codes, subst}
+use Rattle.std.proofs.Common.{◌≡◌, IfOk, codes, subst}
 use Rattle.clap.specs.Words.{App, app_of, with_rule}
 use Rattle.hsr_cli.specs.Flags.{word_rule}
 use Rattle.hsr_cli.proofs.sweeping.limiting.Goals as goal
