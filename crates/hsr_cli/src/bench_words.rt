@@ -121,7 +121,7 @@ fn top_command<'a>(alloc: Global) -> Result<Command<'a>, NoMemory>
     Ok(command)
 }
 
-// Each subcommand is made where it is put on: of many commands that are held at once the proof takes long.
+// Each subcommand is made where it is put on: the proof of a function that holds many commands at once takes long.
 fn with_node<'a>(
     alloc: Global,
     top: Command<'a>,

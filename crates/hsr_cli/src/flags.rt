@@ -72,7 +72,7 @@ fn choice_arg<'a>(
     default_arg(alloc, name, default, help).value_parser(names)
 }
 
-// An option is put on a command by a call of its own: a function that holds many commands and options at once takes its proof long.
+// Each option is put on by a call of its own: the proof of a function that holds many commands and options at once takes long.
 /// A command, with one more flag.
 pub(crate) fn with_flag<'a>(
     alloc: Global,

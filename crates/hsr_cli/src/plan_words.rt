@@ -99,7 +99,7 @@ fn alone_command<'a>(alloc: Global, tables: &'a [&'a str]) -> Result<Command<'a>
     with_flag(alloc, one, "check", check)
 }
 
-// Each subcommand is made where it is put on: of many commands that are held at once the proof takes long.
+// Each subcommand is made where it is put on: the proof of a function that holds many commands at once takes long.
 fn with_run<'a>(
     alloc: Global,
     alone: Command<'a>,
