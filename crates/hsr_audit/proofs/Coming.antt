@@ -11,7 +11,7 @@ use Rattle.hsr_run_laws.specs.Premises.{is_redbox}
 use Rattle.hsr_run_laws.specs.Run.{Run, place_of}
 use Rattle.hsr_bitset.specs.Numbers.{has}
 use Rattle.hsr_network_laws.specs.Network.{Channel, start_of, stop_of}
-use Rattle.hsr_reach.specs.Numbered.{number_of}
+use Rattle.hsr_routes.specs.Numbered.{number_of}
 use Rattle.hsr_audit.specs.Coming.{Comes, IsLastChannel, is_to_station}
 use Rattle.hsr_audit.specs.Reaching.{IsSpreadOf, is_last_in}
 use Rattle.hsr_audit.specs.declared.cutoff.Spread.{Spread}

@@ -13,4 +13,5 @@ pub mod Alike
 pub mod Promising
 pub mod Timing
 pub mod Spending
+pub mod Routed
 mod WorkedCut

@@ -12,7 +12,8 @@ use Rattle.hsr_deliveries.specs.declared.loss.Loss.{Loss}
 use Rattle.hsr_run_laws.specs.Run.{Run, is_of, rows_of}
 use Rattle.hsr_network_laws.specs.Network.{Channel}
 use Rattle.hsr_network_laws.specs.Channels.{is_loss}
-use Rattle.hsr_reach.specs.Numbered.{IsLossOf, number_of}
+use Rattle.hsr_audit.specs.Reaching.{IsLossOf}
+use Rattle.hsr_routes.specs.Numbered.{number_of}
 use Rattle.hsr_bitset.specs.Numbers.{has}
 use Rattle.hsr_audit.specs.Lossy.{AreWaysOf, is_on}
 

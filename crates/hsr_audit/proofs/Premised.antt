@@ -9,7 +9,7 @@ use Rattle.hsr_node.specs.declared.place.Place.TheVariants.{Danh, RedBox, QuadBo
 use Rattle.hsr_topology.proofs.Ends.{end_is, end_same}
 use Rattle.hsr_topology.proofs.Faults.{no_group}
 use Rattle.hsr_network_laws.specs.Network.{HasAddress, is_in_h_or_u}
-use Rattle.hsr_reach.specs.Networks.{AreGoingRound, HaveOwnAddresses}
+use Rattle.hsr_routes.specs.Networks.{AreGoingRound, HaveOwnAddresses}
 use Rattle.hsr_audit.specs.Danhs.{IsDanhRing, is_danh, mac_of, macs_of, mode_of}
 use Rattle.hsr_topology.specs.Links.{is_same_end}
 use Rattle.hsr_run_laws.specs.Premises.{IsRing, Joins, mac_at}

@@ -16,7 +16,7 @@ use Rattle.hsr_deliveries.proofs.Completing.{IsAsDue, all_complete}
 use Rattle.hsr_run_laws.specs.Closed.{IsClosed, IsSend}
 use Rattle.hsr_link.specs.declared.row.Dir.TheVariants.{Forth}
 use Rattle.hsr_topology.specs.declared.end.End.{End}
-use Rattle.hsr_run_laws.specs.Run.{Run, from_end, past_of, place_of, record_of, to_end}
+use Rattle.hsr_run_laws.specs.Run.{Run, from_end, place_of, to_end}
 use Rattle.hsr_run_laws.proofs.Same.{same_address}
 use Rattle.hsr_network_laws.proofs.Delivered.{not_to_itself}
 use Rattle.hsr_network_laws.specs.Delivered.{IsOnceInNetwork, OnceInNetwork, is_covered, is_meant}

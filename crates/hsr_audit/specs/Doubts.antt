@@ -3,7 +3,7 @@
 --     Row, clears           a row of a table: a kind of doubt, and what holds of a run that is clear of it
 --     of_ring, of_network   the table of each audit
 --     IsFirst               a doubt of a table is so, and the run is clear of those before it
-use Rattle.std.specs.Prelude.{ℕ, ◌<◌, ◌==◌, Bool, true, false, List, [], ◌∷◌, length}
+use Rattle.std.specs.Prelude.{ℕ, ◌==◌, Bool, true, false, List, [], ◌∷◌}
 use Rattle.hsr_run_laws.specs.Premises.{NothingForgotten, NothingMistaken, OneLossyLink}
 use Rattle.hsr_run_laws.specs.Run.{Run}
 use Rattle.hsr_network_laws.specs.Late.{NothingLate}
@@ -11,7 +11,7 @@ use Rattle.hsr_network_laws.specs.Network.{IsNetwork}
 use Rattle.hsr_table_flaws.specs.Flaws.{IsFirstNot, IsInTimeAt, KnowsOwnAt, RemembersAt}
 use Rattle.hsr_table_flaws.specs.declared.flaw.Flaw.{Flaw}
 use Rattle.hsr_table_flaws.specs.declared.flaw.Flaw.TheVariants as flaw
-use Rattle.hsr_reach.specs.Networks.{AreGoingRound, HaveOwnAddresses, IsFirstUnlike}
+use Rattle.hsr_routes.specs.Networks.{AreGoingRound, HaveOwnAddresses, IsFirstUnlike}
 use Rattle.hsr_audit.specs.Danhs.{IsDanhRing}
 use Rattle.hsr_audit.specs.Sends.{AreKnown, ArePromised, AreServed, HasSend, IsCoveredAt, IsCutOff, IsKnownAt, IsServedAt}
 use Rattle.hsr_audit.specs.declared.doubt.AuditFault.{AuditFault}

@@ -5,7 +5,7 @@ use Rattle.hsr_link.specs.Rows.{is_same_dir}
 use Rattle.hsr_deliveries.specs.declared.loss.Loss.{Loss}
 use Rattle.hsr_network_laws.specs.Network.{Channel}
 use Rattle.hsr_bitset.specs.Numbers.{has}
-use Rattle.hsr_reach.specs.Numbered.{number_of}
+use Rattle.hsr_routes.specs.Numbered.{number_of}
 
 -- a copy was lost on a channel
 abbrev pub is_on : Channel → Loss → Bool

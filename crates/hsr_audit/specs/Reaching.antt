@@ -1,20 +1,25 @@
 -- Whom a send comes to, by what is found of it, and which node that it is due at it doesn't come to first.
 use Rattle.std.specs.Prelude.{ℕ, ◌<◌, ◌≡◌, ◌↔◌, ◌==◌, ◌&&◌, ◌||◌, not, Bool, true, List, length, Option, Some, None}
+use Rattle.std.specs.List.{list_any}
 use Rattle.hsr_frame.specs.Grammar.{Fields}
 use Rattle.hsr_node.specs.declared.event.Probe.{Probe}
 use Rattle.hsr_deliveries.specs.Delivered.{is_due}
 use Rattle.hsr_run_laws.specs.Premises.{is_redbox}
-use Rattle.hsr_run_laws.specs.Run.{Run, place_of}
+use Rattle.hsr_run_laws.specs.Run.{Run, place_of, rows_of}
 use Rattle.hsr_network_laws.specs.Network.{Channel, start_of, stop_of}
-use Rattle.hsr_network_laws.specs.Channels.{IsReached}
+use Rattle.hsr_network_laws.specs.Channels.{IsReached, is_loss}
 use Rattle.hsr_bitset.specs.Numbers.{has}
 use Rattle.hsr_table_flaws.specs.Flaws.{IsFirstNot}
-use Rattle.hsr_reach.specs.Numbered.{IsLossOf, number_of}
+use Rattle.hsr_routes.specs.Numbered.{number_of}
 use Rattle.hsr_audit.specs.Coming.{Comes}
 use Rattle.hsr_audit.specs.Sends.{IsCutOff, IsServedAt}
 use Rattle.hsr_audit.specs.Placed.{HoldsBelow, HoldsIn, IsFirstOf}
 use Rattle.hsr_audit.specs.declared.cutoff.Cut.{Cut}
 use Rattle.hsr_audit.specs.declared.cutoff.Spread.{Spread}
+
+-- a set has just the channels on which a copy of a send was lost
+abbrev pub IsLossOf : Run → Probe → List ℕ → Type 0
+IsLossOf run send set = (channel : Channel) → channel.link < length run.links → has set (number_of channel) ≡ list_any (is_loss send channel.dir) (rows_of run channel.link)
 
 abbrev pub AreReached : Run → Probe → Fields → List ℕ → Type 0
 AreReached run send frame nodes = (k : ℕ) → k < length run.places → (has nodes k ≡ true) ↔ IsReached run send frame k

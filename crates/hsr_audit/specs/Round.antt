@@ -5,7 +5,7 @@ use Rattle.hsr_link.specs.declared.row.Dir.TheVariants.{Forth, Back}
 use Rattle.hsr_node.specs.declared.place.Place.{Place}
 use Rattle.hsr_node.specs.declared.place.Place.TheVariants.{Danh, RedBox, QuadBox, Station}
 use Rattle.hsr_audit.specs.Danhs.{IsDanhRing, is_danh, macs_of}
-use Rattle.hsr_reach.specs.Networks.{AreGoingRound, HaveOwnAddresses}
+use Rattle.hsr_routes.specs.Networks.{AreGoingRound, HaveOwnAddresses}
 use Rattle.hsr_topology.specs.Links.{is_same_end}
 use Rattle.hsr_run_laws.specs.Premises.{NothingForgotten, NothingMistaken, OneLossyLink}
 use Rattle.hsr_run_laws.specs.Run.{Run, from_end}

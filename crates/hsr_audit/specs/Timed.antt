@@ -2,8 +2,7 @@
 --     sent_moments     those of a record's sends
 --     is_in_time       an event comes in time
 --     AreSendMoments   the moments of all sends, rising
-use Rattle.std.specs.Prelude.{ℕ, zero, suc, ◌-◌, ◌<◌, ◌&&◌, nat_le, nat_lt, Bool, true, List, [], ◌∷◌, ◌++◌, length, map, reverse, slice_index_or, if◌then◌else◌, Option, Some, None, Vec, IsPermutation}
-use Rattle.std.specs.Global.{Global}
+use Rattle.std.specs.Prelude.{ℕ, zero, suc, ◌-◌, ◌<◌, ◌&&◌, nat_le, nat_lt, Bool, true, List, [], ◌∷◌, ◌++◌, length, map, if◌then◌else◌, Option, Some, None, IsPermutation}
 use Rattle.std.specs.List.Sorted.{IsNonDecreasing}
 use Rattle.hsr_duptable.specs.Notes.{entry_forget}
 use Rattle.hsr_node.specs.Record.{now}

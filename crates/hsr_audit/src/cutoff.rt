@@ -4,10 +4,9 @@ ghost use Rattle.hsr_deliveries.specs.Delivered.{lost};
 ghost use Rattle.hsr_run_laws.specs.Premises.{is_redbox};
 ghost use Rattle.hsr_run_laws.specs.Run.{place_of, record_of};
 ghost use Rattle.hsr_audit.specs.Coming.{Comes};
-ghost use Rattle.hsr_audit.specs.Reaching.{AreReached, IsCutAt, IsCutIn, IsFirstCut, IsFirstUnserved, IsSpreadOf, is_last_in};
+ghost use Rattle.hsr_audit.specs.Reaching.{AreReached, IsCutAt, IsCutIn, IsFirstCut, IsFirstUnserved, IsLossOf, IsSpreadOf, is_last_in};
 ghost use Rattle.hsr_audit.specs.Shared.{AreFound};
 ghost use Rattle.hsr_network_laws.specs.Network.{start_of};
-ghost use Rattle.hsr_reach.specs.Numbered.{IsLossOf};
 
 use crate::covered::{is_redbox, is_to_station};
 use crate::lossy::channels_of;
@@ -19,7 +18,7 @@ use hsr_finished_run::Closed;
 use hsr_frame::NoMemory;
 use hsr_link::Dir;
 use hsr_node::{Place, Probe};
-use hsr_reach::{Channel, Channels};
+use hsr_routes::{Channel, Heading, Routes};
 use hsr_tag::FrameView;
 use indexmap::IndexMap;
 use std::alloc::Global;
@@ -40,23 +39,24 @@ struct Spread {
     lossy: Numbers,
 }
 
-/// A finished run, the channels that start at each of its nodes, and the losses of each of its sends.
+/// A finished run, the routes of its topology, and the losses of each of its sends.
 #[derive(Drop)]
 pub(crate) struct Reach<'a, const C: usize> {
     closed: &'a Closed<C>,
-    channels: Channels<'a, C>,
+    routes: Routes<'a>,
     losses: Losses<'a, C>,
 }
 
 impl<'a, const C: usize> Model for Reach<'a, C> {
     ghost use Rattle.std.specs.Prelude.{◌≡◌};
     ghost use Rattle.hsr_run_laws.specs.Run.{Run};
+    ghost use Rattle.hsr_routes.specs.Routes.{bare};
 
     ghost Value = { Run };
 
     ghost view = { λ r. r.closed.now.run };
 
-    ghost invariant = { λ r. (r.channels ≡ r.closed.now.run) × (r.losses ≡ r.closed.now.run) };
+    ghost invariant = { λ r. (r.routes ≡ bare r.closed.now.run.places r.closed.now.run.links) × (r.losses ≡ r.closed.now.run) };
 }
 
 impl<'a, const C: usize> Reach<'a, C> {
@@ -66,7 +66,7 @@ impl<'a, const C: usize> Reach<'a, C> {
     {
         Ok(Reach {
             closed,
-            channels: Channels::new(alloc, closed)?,
+            routes: Routes::new(alloc, closed.topology())?,
             losses: Losses::new(alloc, closed)?,
         })
     }
@@ -96,7 +96,12 @@ impl<'a, const C: usize> Reach<'a, C> {
         requires lossy { IsLossOf self.now send lossy.now }
         ensures { AreReached self.now send frame.now result }
     {
-        self.channels.reached(send, frame, lossy)
+        let heading = Heading {
+            sender: send.node,
+            dst: frame.dst,
+            kind: frame.kind,
+        };
+        self.routes.reached(&heading, lossy)
     }
 
     /// The nodes that a send reaches that lost nothing: those of an earlier one to its destination, of its type, if
@@ -178,7 +183,7 @@ impl<'a, const C: usize> Reach<'a, C> {
         // As above: a channel's number asks for few links.
         let _ = self.closed.topology();
         let start = self.start(channel);
-        self.channels.stop(channel).node == node
+        self.routes.stop(channel).node == node
             && !spread.lossy.has(channel.number())
             && (start == sender || self.is_redbox(start) && spread.nodes.has(start))
     }

@@ -5,6 +5,7 @@
 //!
 //! Its modules, in the order in which to read them:
 //! - `doubt`: why a run isn't certified
+//! - `premises`: what a network asks of nodes and links
 //! - `round`: whether nodes and links are a ring, and whether it lost copies on one link at most
 //! - `certificate`: what the certificate of a ring lists
 //! - `ring`: the audit of a ring of DANHs, its call
@@ -32,6 +33,7 @@ mod lossy;
 mod missed;
 mod moments;
 mod network;
+mod premises;
 mod ring;
 mod round;
 mod sends;

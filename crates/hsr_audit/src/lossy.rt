@@ -3,11 +3,11 @@ ghost use Rattle.std.specs.Prelude.{◌≡◌, ◌<◌, ◌==◌, ◌&&◌, ◌|
 ghost use Rattle.hsr_audit.specs.Lossy.{AreWaysOf, is_on};
 ghost use Rattle.hsr_network_laws.specs.Network as law;
 ghost use Rattle.hsr_bitset.specs.Numbers.{has};
-ghost use Rattle.hsr_reach.specs.Numbered.{number_of};
+ghost use Rattle.hsr_routes.specs.Numbered.{number_of};
 
 use hsr_bitset::Numbers;
 use hsr_deliveries::Loss;
-use hsr_reach::Channel;
+use hsr_routes::Channel;
 
 /// Puts the channel of a loss into a set, if its link is one of the first 256.
 fn put_channel(set: &mut Numbers, loss: &Loss)

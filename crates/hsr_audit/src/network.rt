@@ -8,6 +8,7 @@ ghost use Rattle.hsr_audit.specs.Sends.{AreServed, HasSend};
 use crate::cutoff::Reach;
 use crate::doubt::{AuditFault, Doubt, doubt_at};
 use crate::missed::first_missed;
+use crate::premises::{are_going_round, first_unlike_link, have_own_addresses};
 use crate::sends::{first_uncovered, has_send};
 use hsr_deliveries::{Deliveries, deliveries};
 use hsr_finished_run::Closed;
@@ -15,7 +16,6 @@ use hsr_network_laws::{
     late_decides, lives_stay, once_in_network, once_to_station, ring_is_crossed,
 };
 use hsr_node::Probe;
-use hsr_reach::{are_going_round, first_unlike_link, have_own_addresses};
 use hsr_table_flaws::first_flaw;
 use std::alloc::Global;
 

@@ -9,12 +9,12 @@ ghost use Rattle.hsr_deliveries.specs.Delivered.{AreComplete};
 
 use crate::certificate::{Certificate, Certified, list_record};
 use crate::doubt::{AuditFault, Doubt, doubt_at};
+use crate::premises::{are_going_round, have_own_addresses};
 use crate::round::{addresses, is_round, loses_on_one};
 use hsr_deliveries::once_is_complete;
 use hsr_finished_run::Closed;
 use hsr_frame::{Mac, NoMemory};
 use hsr_network_laws::ring_is_crossed;
-use hsr_reach::{are_going_round, have_own_addresses};
 use hsr_run_laws::exactly_once;
 use hsr_table_flaws::first_flaw;
 use std::alloc::Global;

@@ -13,7 +13,7 @@ use hsr_frame::NoMemory;
 use hsr_naming::Naming;
 use hsr_node::{Place, Probe};
 use hsr_options::Scope;
-use hsr_reach::is_edge;
+use hsr_routes::is_edge;
 use hsr_text::put;
 use hsr_topology::{End, is_used};
 use std::alloc::Global;

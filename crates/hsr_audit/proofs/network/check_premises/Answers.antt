@@ -1,10 +1,9 @@
 use Rattle.std.proofs.Common.{rules, length}
 use Rattle.hsr_run_laws.specs.Run.{Run}
-use Rattle.hsr_audit.specs.Doubts.{IsSo, IsSound}
+use Rattle.hsr_audit.specs.Doubts.{IsSound}
 use Rattle.hsr_audit.specs.Placed.{HoldsIn}
 use Rattle.hsr_audit.specs.Sends.{AreKnown, AreServed, IsCoveredAt}
-use Rattle.hsr_audit.specs.declared.doubt.Doubt.TheVariants.{Uncovered, UnknownStation}
-use Rattle.hsr_audit.proofs.Promising.{all_covered, uncovered_is, unknown_is}
+use Rattle.hsr_audit.proofs.Promising.{all_covered}
 use Rattle.hsr_audit.proofs.network.check_premises.Goals as goal
 
 pub returns-in-None-clause-premised : goal.returns-in-None-clause-premised

@@ -1,7 +1,7 @@
 use Rattle.std.proofs.Common.{rules, ◌≡◌, filter_map, ◌∙◌}
 use Rattle.hsr_audit.specs.Round.{IsRound, address_of}
 use Rattle.hsr_run_laws.specs.Run.{Run}
-use Rattle.hsr_reach.specs.Networks.{AreGoingRound, HaveOwnAddresses}
+use Rattle.hsr_routes.specs.Networks.{AreGoingRound, HaveOwnAddresses}
 use Rattle.hsr_audit.proofs.Premised.{addresses_are, ring_of_round, round_of_ring}
 use Rattle.hsr_audit.proofs.ring.ring_macs.Goals as goal
 

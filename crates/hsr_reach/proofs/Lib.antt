@@ -1,5 +1,0 @@
-pub mod Owned
-pub mod Networked
-pub mod Started
-pub mod Spreading
-pub mod Ending

@@ -1,5 +1,0 @@
-use Rattle.hsr_reach.specs.Addressed.{LikeBelow}
-use Rattle.hsr_reach.proofs.sides.first_unlike.Given as goal
-
-abbrev pub invariant-loop-l : goal.invariant-loop-l
-invariant-loop-l x = LikeBelow x.places x.links x.l

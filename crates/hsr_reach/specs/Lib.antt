@@ -1,5 +1,0 @@
-pub mod Networks
-pub mod Addressed
-pub mod Numbered
-pub mod Started
-pub mod Spread
