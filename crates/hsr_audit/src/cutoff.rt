@@ -14,7 +14,7 @@ use crate::sends::send_at;
 use crate::shared::{Found, found_of, keep};
 use hsr_bitset::Numbers;
 use hsr_deliveries::{Loss, Losses, is_due};
-use hsr_finished_run::Closed;
+use hsr_finished_run::{Closed, from_end};
 use hsr_frame::NoMemory;
 use hsr_link::Dir;
 use hsr_node::{Place, Probe};
@@ -158,11 +158,7 @@ impl<'a, const C: usize> Reach<'a, C> {
         requires { channel.link < length self.now.links }
         ensures { result ≡ (start_of self.now channel).node }
     {
-        let [a, b] = self.closed.topology().links()[channel.link];
-        match channel.dir {
-            Dir::Forth => a.node,
-            Dir::Back => b.node,
-        }
+        from_end(self.closed.topology().links()[channel.link], channel.dir).node
     }
 
     /// Whether a node is a RedBox.

@@ -4,7 +4,7 @@ use Rattle.std.specs.Prelude.{nat_lt, ◌↔◌, IsTrue}
 use Rattle.std.proofs.lemmas.Bool.{and_from, and_parts, cases_lt, false≢true}
 use Rattle.hsr_run_laws.specs.Run.{Run}
 use Rattle.hsr_network_laws.specs.Network.{Channel, stop_of}
-use Rattle.hsr_network_laws.specs.Search.{IsFound}
+use Rattle.hsr_routes.specs.Search.{IsFound}
 use Rattle.hsr_bitset.specs.Numbers.{has, has_bit}
 use Rattle.hsr_routes.specs.Numbered.{channel_at, is_found, number_of}
 use Rattle.hsr_routes.proofs.Spreading.{few, numbered, number_back}

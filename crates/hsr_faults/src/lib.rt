@@ -6,7 +6,6 @@
 //! - `nodes`: sets of nodes
 //! - `channels`: sets of channels
 //! - `ends`: the ends of channels
-//! - `follow`: which channels a frame takes on
 //! - `onward`: the channels that follow each channel, for one frame
 //! - `search`: the search for the nodes that routes lead to
 //! - `downs`: the channels that are down in the span of a send
@@ -23,7 +22,6 @@ mod downs;
 mod ends;
 mod fault;
 mod faults;
-mod follow;
 mod groups;
 mod law;
 mod nodes;

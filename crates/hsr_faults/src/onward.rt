@@ -8,10 +8,9 @@ ghost use Rattle.hsr_routes.specs.Spread.{Follows};
 ghost use Rattle.hsr_faults.specs.Onward.{AreFollowing, AreOnward};
 
 use crate::channels::Channels;
-use crate::ends::{channel_at, start, stop};
-use crate::follow::{lets_out, passes_on};
+use crate::ends::{start, stop};
 use hsr_frame::NoMemory;
-use hsr_routes::{Channel, Heading};
+use hsr_routes::{Channel, Heading, lets_out, passes_on};
 use hsr_topology::Topology;
 use std::alloc::Global;
 
@@ -79,7 +78,7 @@ fn following(topology: &Topology, frame: &Heading, from: &Option<Channel>) -> Ch
 {
     let mut set = Channels::new();
     for number in 0..2 * topology.links().len() {
-        set.put(number, follows(topology, frame, from, channel_at(number)));
+        set.put(number, follows(topology, frame, from, Channel::at(number)));
     }
     set
 }
@@ -97,7 +96,7 @@ impl Onward {
         let first = following(topology, frame, &None);
         let mut next = Vec::new(alloc);
         for number in 0..2 * topology.links().len() {
-            next.push(following(topology, frame, &Some(channel_at(number))))?;
+            next.push(following(topology, frame, &Some(Channel::at(number))))?;
         }
         Ok(Onward { first, next })
     }

@@ -2,19 +2,18 @@
 ghost use Rattle.std.specs.Prelude.{◌≡◌, ◌↔◌, ◌<◌, ◌≤◌, ◌*◌, ◌&&◌, ◌||◌, not, true, ℕ, length, slice_index_or, IfOk, IsTrue};
 ghost use Rattle.hsr_bitset.specs.Numbers.{has, has_bit};
 ghost use Rattle.hsr_network_laws.specs.Network.{stop_of};
-ghost use Rattle.hsr_network_laws.specs.Search.{IsFound};
 ghost use Rattle.hsr_routes.specs.Numbered.{channel_at, is_found, is_in};
 ghost use Rattle.hsr_routes.specs.Routes.{bare, heading, sender_at};
-ghost use Rattle.hsr_routes.specs.Search.{IsSearched};
+ghost use Rattle.hsr_routes.specs.Search.{IsFound, IsSearched};
 ghost use Rattle.hsr_faults.specs.Onward.{AreOnward};
 ghost use Rattle.hsr_faults.specs.Search.{AreInto, AreLedTo, AreStopping, IsGoneOn};
 
 use crate::channels::Channels;
-use crate::ends::{channel_at, stop};
+use crate::ends::stop;
 use crate::nodes::Nodes;
 use crate::onward::Onward;
 use hsr_frame::NoMemory;
-use hsr_routes::Heading;
+use hsr_routes::{Channel, Heading};
 use hsr_topology::Topology;
 use std::alloc::Global;
 
@@ -65,7 +64,7 @@ fn stopping(topology: &Topology, node: usize) -> Channels
 {
     let mut set = Channels::new();
     for number in 0..2 * topology.links().len() {
-        set.put(number, stop(topology, channel_at(number)).node == node);
+        set.put(number, stop(topology, Channel::at(number)).node == node);
     }
     set
 }

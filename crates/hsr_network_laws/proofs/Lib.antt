@@ -15,7 +15,6 @@ pub mod AtMost
 pub mod Lives
 pub mod Delivered
 pub mod Stations
-pub mod Search
 pub mod Wired
 pub mod Rings
 pub mod WorkedBox

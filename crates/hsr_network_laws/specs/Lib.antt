@@ -4,5 +4,4 @@ pub mod Late
 pub mod Delivered
 pub mod Lives
 pub mod Stations
-pub mod Search
 pub mod Rings

@@ -3,7 +3,6 @@ ghost use Rattle.hsr_network_laws.specs.Delivered.{OnceInNetwork};
 ghost use Rattle.hsr_network_laws.specs.Late.{LateDecides};
 ghost use Rattle.hsr_network_laws.specs.Lives.{LivesStay};
 ghost use Rattle.hsr_network_laws.specs.Rings.{RingIsCrossed};
-ghost use Rattle.hsr_network_laws.specs.Search.{SearchDecides};
 ghost use Rattle.hsr_network_laws.specs.Stations.{OnceToStation};
 
 /// In a closed run of a network of DANHs and RedBoxes in modes H and U, QuadBoxes and Stations, with nothing forgotten that was
@@ -21,12 +20,6 @@ pub fn once_in_network()
 /// address each time that it handled the frame.
 pub fn once_to_station()
     ensures { OnceToStation }
-{}
-
-/// A set of channels, to whose ends a send comes, that holds the channels from its sender and is closed under going on, leads to
-/// just the nodes that the send reaches.
-pub fn search_decides()
-    ensures { SearchDecides }
 {}
 
 /// In a closed run of a network each RedBox numbers a frame of its Station once and before it hears of it, just where no

@@ -3,6 +3,4 @@
 
 mod law;
 
-pub use law::{
-    late_decides, lives_stay, once_in_network, once_to_station, ring_is_crossed, search_decides,
-};
+pub use law::{late_decides, lives_stay, once_in_network, once_to_station, ring_is_crossed};

@@ -4,7 +4,7 @@ use Rattle.hsr_frame.specs.Grammar.{Fields}
 use Rattle.hsr_node.specs.declared.event.Probe.{Probe}
 use Rattle.hsr_run_laws.specs.Run.{Run}
 use Rattle.hsr_network_laws.specs.Network.{Channel}
-use Rattle.hsr_routes.specs.Routes.{IsFree, IsLedTo, LeadsOver, on, sent}
+use Rattle.hsr_routes.specs.Routes.{IsLedTo, LeadsOver, on, sent}
 
 pub leads_alike : (run : Run) (send : Probe) (frame : Fields) (a b : Channel → Bool) → ((channel : Channel) → channel.link < length run.links → a channel ≡ b channel) →
     (channel : Channel) → LeadsOver run send frame a channel → LeadsOver run send frame b channel

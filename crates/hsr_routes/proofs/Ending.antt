@@ -1,10 +1,10 @@
 -- The nodes at the ends of channels that are found.
-use Rattle.std.proofs.Common.{◌≡◌, ℕ, ◌+◌, ◌*◌, ◌<◌, ◌≤◌, ◌==◌, ◌&&◌, Bool, true, false, if◌then◌else◌, List, length, refl, sym, ap, ◌∙◌, subst, arith, ⊎_elim, eq-eqb, eqb-true, ltb-true, lt-ltb}
+use Rattle.std.proofs.Common.{◌≡◌, ℕ, ◌+◌, ◌*◌, ◌<◌, ◌≤◌, ◌==◌, ◌&&◌, Bool, true, false, if◌then◌else◌, List, length, refl, sym, ap, ◌∙◌, arith, ⊎_elim, eq-eqb, eqb-true, ltb-true, lt-ltb}
 use Rattle.std.specs.Prelude.{nat_lt, ◌↔◌}
 use Rattle.std.proofs.lemmas.Bool.{and_from, and_parts, cases_lt, false≢true}
 use Rattle.hsr_run_laws.specs.Run.{Run}
 use Rattle.hsr_network_laws.specs.Network.{Channel, stop_of}
-use Rattle.hsr_network_laws.specs.Search.{IsFound}
+use Rattle.hsr_routes.specs.Search.{IsFound}
 use Rattle.hsr_routes.proofs.There.{to_there}
 use Rattle.hsr_topology.specs.Wired.{IsWired}
 use Rattle.hsr_bitset.specs.Numbers.{has}

@@ -5,5 +5,4 @@ pub mod Started
 pub mod Searching
 pub mod Spreading
 pub mod Ending
-pub mod Lossy
 pub mod Alike

@@ -8,14 +8,14 @@ use Rattle.std.proofs.lemmas.List.Sums.{AllPass-from_list_all, list_all-from_All
 use Rattle.hsr_link.specs.declared.row.Dir.{Dir}
 use Rattle.hsr_link.specs.declared.row.Dir.TheVariants.{Forth, Back}
 use Rattle.hsr_node.specs.declared.place.Place.{Place}
-use Rattle.hsr_node.specs.declared.place.Place.TheVariants.{Danh, RedBox, QuadBox, Station}
+use Rattle.hsr_node.specs.declared.place.Place.TheVariants.{QuadBox}
 use Rattle.hsr_topology.specs.declared.end.End.{End}
 use Rattle.hsr_topology.specs.Wired.{EndsLeadBack, IsWired}
-use Rattle.hsr_run_laws.specs.Run.{Run, ends_of, from_end, place_of, to_end}
+use Rattle.hsr_run_laws.specs.Run.{Run, ends_of, from_end, to_end}
 use Rattle.hsr_network_laws.specs.Network.{IsNetwork, Channel, is_edge_of, is_in_h_or_u, start_of, stop_of}
 use Rattle.hsr_network_laws.proofs.Wired.{wired_network}
 use Rattle.hsr_routes.specs.Addressed.{AreLike, IsUnlikeAt, LikeBelow}
-use Rattle.hsr_routes.specs.Networks.{AreGoingRound, HasLikeEnds, HaveOwnAddresses, IsFirstUnlike}
+use Rattle.hsr_routes.specs.Networks.{AreGoingRound, HaveOwnAddresses, IsFirstUnlike}
 
 pub rounds_all : (run : Run) → list_all is_in_h_or_u run.places ≡ true → AreGoingRound run
 rounds_all run h = λ k below. AllPass-from_list_all is_in_h_or_u run.places h k QuadBox below

@@ -7,12 +7,12 @@ use Rattle.hsr_node.specs.declared.event.Probe.{Probe}
 use Rattle.hsr_link.specs.declared.row.Dir.{Dir}
 use Rattle.hsr_link.specs.declared.row.Dir.TheVariants.{Forth, Back}
 use Rattle.hsr_run_laws.specs.Run.{Run}
-use Rattle.hsr_network_laws.specs.Network.{Channel, start_of, stop_of}
+use Rattle.hsr_network_laws.specs.Network.{Channel, start_of}
 use Rattle.hsr_routes.specs.Search.{IsSearched}
-use Rattle.hsr_network_laws.specs.Channels.{IsFirstChannel, IsNextChannel}
+use Rattle.hsr_network_laws.specs.Channels.{IsNextChannel}
 use Rattle.hsr_routes.specs.Routes.{IsFree, LeadsOver, on, sent}
 use Rattle.hsr_bitset.specs.Numbers.{has}
-use Rattle.hsr_routes.specs.Numbered.{dir_at, dir_number, is_found, number_of, channel_at}
+use Rattle.hsr_routes.specs.Numbered.{dir_number, is_found, number_of, channel_at}
 use Rattle.hsr_routes.specs.Spread.{Follows, Grows, IsAdded, IsAsBefore, IsFront, IsPut, IsSpread, IsTakenOut, OnlyFollows, left_below, left_over, next_node, weight}
 use Rattle.hsr_routes.specs.Started.{channels_from}
 use Rattle.hsr_routes.proofs.Started.{stands}

@@ -1,10 +1,9 @@
 -- The channels that start at a node: each does, and all of them are there.
-use Rattle.std.proofs.Common.{◌≡◌, ℕ, ◌+◌, ◌<◌, ◌==◌, Bool, true, false, if◌then◌else◌, List, [], ◌∷◌, ◌++◌, length, slice_index_or, refl, sym, ap, ◌∙◌, subst, arith, zero, suc, ⊎_elim, eq-eqb, eqb-true}
-use Rattle.std.proofs.lemmas.Bool.{cases_lt}
+use Rattle.std.proofs.Common.{◌≡◌, ℕ, ◌+◌, ◌<◌, ◌==◌, Bool, true, false, if◌then◌else◌, List, [], ◌∷◌, ◌++◌, length, slice_index_or, refl, sym, ap, ◌∙◌, subst, arith, zero, suc, eq-eqb, eqb-true}
 use Rattle.hsr_link.specs.declared.row.Dir.{Dir}
 use Rattle.hsr_link.specs.declared.row.Dir.TheVariants.{Forth, Back}
 use Rattle.hsr_topology.specs.declared.end.End.{End}
-use Rattle.hsr_run_laws.specs.Run.{Run, ends_of, from_end}
+use Rattle.hsr_run_laws.specs.Run.{Run, from_end}
 use Rattle.hsr_network_laws.specs.Network.{Channel, start_of}
 use Rattle.std.proofs.lemmas.List.FromFn.{get_or-map-range_with_len, length-map-range_with_len}
 use Rattle.hsr_routes.specs.Started.{AreStarting, channel_from, channels_from}

@@ -5,4 +5,3 @@ pub mod Addressed
 pub mod Numbered
 pub mod Started
 pub mod Spread
-pub mod Lossy

@@ -4,7 +4,7 @@
 --     HasLikeEnds        a link joins two ports on rings, or two edges
 --     IsFirstUnlike      the lowest link that joins what is unlike
 use Rattle.std.specs.Prelude.{ℕ, ◌<◌, ◌≡◌, true, List, length}
-use Rattle.hsr_link.specs.declared.row.Dir.TheVariants.{Forth, Back}
+use Rattle.hsr_link.specs.declared.row.Dir.TheVariants.{Forth}
 use Rattle.hsr_run_laws.specs.Run.{Run, ends_of, from_end, place_of, to_end}
 use Rattle.hsr_network_laws.specs.Network.{HasAddress, is_edge_of, is_in_h_or_u}
 

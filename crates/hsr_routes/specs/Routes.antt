@@ -34,8 +34,7 @@ pub record IsFree (run : Run) (avoid : Channel → Bool) (channel : Channel) : T
   pub below : channel.link < length run.links
   pub free : avoid channel ≡ false
 
--- From the sender, and from the end of a channel on, by the rules of networks, over free channels alone. Where just the channels are
--- avoided on which a copy of a send was lost, the send comes over these.
+-- From the sender, and from the end of a channel on, by the rules of networks, over free channels alone.
 pub data LeadsOver (run : Run) (send : Probe) (frame : Fields) (avoid : Channel → Bool) : Channel → Type 0 where
   sent : (channel : Channel) → IsFree run avoid channel → IsFirstChannel run send frame channel → LeadsOver run send frame avoid channel
   on : (channel next : Channel) → LeadsOver run send frame avoid channel → IsFree run avoid next → IsNextChannel run send frame channel next → LeadsOver run send frame avoid next

@@ -35,8 +35,8 @@ impl Channel {
             }
     }
 
-    /// The channel with a number.
-    pub(crate) fn at(number: usize) -> Channel
+    /// The channel with a number, as `number` tells it.
+    pub fn at(number: usize) -> Channel
         ensures { result ≡ channel_at number }
     {
         Channel {

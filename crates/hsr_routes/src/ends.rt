@@ -6,7 +6,7 @@ use hsr_link::Dir;
 use hsr_topology::End;
 
 /// The end of a link from which the copies of a direction come.
-pub(crate) fn from_end(link: [End; 2], dir: Dir) -> End
+pub fn from_end(link: [End; 2], dir: Dir) -> End
     ensures { result ≡ from_end dir link }
 {
     let [a, b] = link;
@@ -17,7 +17,7 @@ pub(crate) fn from_end(link: [End; 2], dir: Dir) -> End
 }
 
 /// The end of a link to which the copies of a direction go.
-pub(crate) fn to_end(link: [End; 2], dir: Dir) -> End
+pub fn to_end(link: [End; 2], dir: Dir) -> End
     ensures { result ≡ to_end dir link }
 {
     let [a, b] = link;

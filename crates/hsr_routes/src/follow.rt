@@ -17,8 +17,8 @@ fn keeps_own(mode: Mode) -> bool
     }
 }
 
-/// Whether a node passes on a frame that came by a port.
-pub(crate) fn passes_on(frame: &Heading, node: usize, place: &Place, port: u8) -> bool
+/// Whether a node of this kind, by its number, passes on a frame that came by a port (IEC 62439-3 clause 5.3).
+pub fn passes_on(frame: &Heading, node: usize, place: &Place, port: u8) -> bool
     ensures { result ≡ passes_on frame.now.sender (heading frame.now.dst frame.now.kind) node place.now port }
 {
     match place {
@@ -34,8 +34,8 @@ pub(crate) fn passes_on(frame: &Heading, node: usize, place: &Place, port: u8) -
     }
 }
 
-/// Whether a node lets a frame out by a port.
-pub(crate) fn lets_out(frame: &Heading, place: &Place, port: u8) -> bool
+/// Whether a node of this kind lets a frame out by a port.
+pub fn lets_out(frame: &Heading, place: &Place, port: u8) -> bool
     ensures { result ≡ lets_out (heading frame.now.dst frame.now.kind) place.now port }
 {
     match place {

@@ -11,7 +11,6 @@
 //! - `follow`: which channels a frame takes on
 //! - `front`: what a search has found
 //! - `search`: the search for the channels that a frame takes
-//! - `law`: what a send of a run comes over
 #![tactic(auto)]
 
 mod addresses;
@@ -20,7 +19,6 @@ mod ends;
 mod follow;
 mod front;
 mod heading;
-mod law;
 mod network;
 mod search;
 mod sides;
@@ -28,8 +26,9 @@ mod starting;
 
 pub use addresses::share_address;
 pub use channel::Channel;
+pub use ends::{from_end, to_end};
+pub use follow::{lets_out, passes_on};
 pub use heading::Heading;
-pub use law::comes_by_routes;
 pub use network::{are_going_round, first_unlike_link, have_own_addresses, is_in_h_or_u};
 pub use search::Routes;
 pub use sides::is_edge;

@@ -2,12 +2,11 @@
 ghost use Rattle.std.specs.Prelude.{◌≡◌, ◌↔◌, ◌<◌, ◌≤◌, ◌==◌, ◌&&◌, if◌then◌else◌, true, ℕ, length, IfOk, IfSome, IsTrue};
 ghost use Rattle.hsr_run_laws.specs.Run.{place_of};
 ghost use Rattle.hsr_network_laws.specs.Network.{start_of, stop_of};
-ghost use Rattle.hsr_network_laws.specs.Search.{IsFound};
 ghost use Rattle.hsr_network_laws.specs.Channels.{IsFirstChannel, IsNextChannel, lets_out};
 ghost use Rattle.hsr_bitset.specs.Numbers.{has};
 ghost use Rattle.hsr_routes.specs.Numbered.{is_found, is_in, number_of};
 ghost use Rattle.hsr_routes.specs.Routes.{IsFree, IsLedTo, bare, heading, sender_at};
-ghost use Rattle.hsr_routes.specs.Search.{IsSearched};
+ghost use Rattle.hsr_routes.specs.Search.{IsFound, IsSearched};
 ghost use Rattle.hsr_routes.specs.Spread.{Follows, IsSpread, next_node};
 ghost use Rattle.hsr_routes.specs.Started.{channels_from};
 

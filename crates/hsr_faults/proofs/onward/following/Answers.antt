@@ -7,8 +7,8 @@ use Rattle.hsr_faults.proofs.onward.following.Goals as goal
 pub loop-number-preserved : goal.loop-number-preserved
 loop-number-preserved c =
     let net : Run = bare c.args.topology.now.places c.args.topology.now.links in
-    following_more net (sender_at c.args.frame.now.sender) (heading c.args.frame.now.dst c.args.frame.now.kind) c.args.from.now c.loop-number.number c.channel_at.result c.follows.result
-    c.loop-number.set.words c.put.new.self.words c.channel_at.ensures c.follows.ensures c.put.ensures c.loop-number.invariant
+    following_more net (sender_at c.args.frame.now.sender) (heading c.args.frame.now.dst c.args.frame.now.kind) c.args.from.now c.loop-number.number c.at.result c.follows.result
+    c.loop-number.set.words c.put.new.self.words c.at.ensures c.follows.ensures c.put.ensures c.loop-number.invariant
 
 pub returns : goal.returns
 returns c =

@@ -10,5 +10,5 @@ pub loop-number-preserved : goal.loop-number-preserved
 loop-number-preserved c =
     let net : Run = bare c.args.topology.now.places c.args.topology.now.links in
     let at : c.stop.result.node ≡ (stop_of net (channel_at c.loop-number.number)).node =
-    ap (λ end. end.node) c.stop.ensures.value ∙ ap (λ (w : Channel). (stop_of net w).node) c.channel_at.ensures in
+    ap (λ end. end.node) c.stop.ensures.value ∙ ap (λ (w : Channel). (stop_of net w).node) c.at.ensures in
     stops_more net c.args.node c.loop-number.number (c.stop.result.node == c.args.node) c.loop-number.set.words c.put.new.self.words c.stop.result.node at Rattle.std.proofs.Common.refl c.put.ensures c.loop-number.invariant

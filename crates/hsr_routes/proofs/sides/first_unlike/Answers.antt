@@ -1,4 +1,4 @@
-use Rattle.std.proofs.Common.{rules, ◌≡◌, ◌<◌, [], length, slice_index_or}
+use Rattle.std.proofs.Common.{rules, ◌<◌, [], length, slice_index_or}
 use Rattle.hsr_routes.specs.Addressed.{AreLike}
 use Rattle.hsr_routes.proofs.Networked.{like_more}
 use Rattle.hsr_routes.proofs.sides.first_unlike.Goals as goal

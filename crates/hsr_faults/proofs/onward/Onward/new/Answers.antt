@@ -17,7 +17,7 @@ loop-number-preserved c =
     let before = c.loop-number.next.items in
     let more : c.push.new.self.items ≡ before ++ c.following.result ∷ [] = grind (arith, common_steps) in
     let one : P c.loop-number.number c.following.result =
-    subst (λ (w : Channel). AreFollowing net (sender_at c.args.frame.now.sender) (heading c.args.frame.now.dst c.args.frame.now.kind) (Some w) c.following.result.words) c.channel_at.ensures c.following.ensures in (
+    subst (λ (w : Channel). AreFollowing net (sender_at c.args.frame.now.sender) (heading c.args.frame.now.dst c.args.frame.now.kind) (Some w) c.following.result.words) c.at.ensures c.following.ensures in (
       length_more before c.push.new.self.items c.following.result c.loop-number.number more c.loop-number.invariant.0,
       each_more P before c.push.new.self.items c.following.result c.loop-number.number more c.loop-number.invariant.0 c.loop-number.invariant.1 one,
     )

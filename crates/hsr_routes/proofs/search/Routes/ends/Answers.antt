@@ -1,4 +1,4 @@
-use Rattle.std.proofs.Common.{rules, ◌≡◌, ◌*◌, ◌<◌, ◌≤◌, ◌∙◌, ℕ, length, ap, arith}
+use Rattle.std.proofs.Common.{rules, ◌≡◌, ◌*◌, ◌<◌, ◌≤◌, ◌∙◌, ℕ, length, ap}
 use Rattle.hsr_run_laws.specs.Run.{Run}
 use Rattle.hsr_network_laws.specs.Network.{Channel, stop_of}
 use Rattle.hsr_topology.specs.Wired.{IsWired}

@@ -1,4 +1,3 @@
-use Rattle.std.proofs.Common.{ℕ}
 use Rattle.hsr_routes.specs.Routes.{heading, sender_at}
 use Rattle.hsr_run_laws.specs.Run.{Run}
 use Rattle.hsr_routes.specs.Numbered.{is_found, is_in}

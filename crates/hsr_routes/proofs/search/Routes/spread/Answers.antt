@@ -5,7 +5,7 @@ use Rattle.hsr_routes.specs.Routes.{heading, sender_at}
 use Rattle.hsr_routes.specs.Numbered.{is_in}
 use Rattle.hsr_routes.specs.Spread.{IsPut, next_node}
 use Rattle.hsr_routes.specs.Started.{channels_from}
-use Rattle.hsr_routes.proofs.Spreading.{IsSpreadBelow, spread_all, spread_more, spread_start}
+use Rattle.hsr_routes.proofs.Spreading.{spread_all, spread_more}
 use Rattle.hsr_routes.proofs.Started.{start_there}
 use Rattle.hsr_routes.proofs.search.Routes.spread.Goals as goal
 

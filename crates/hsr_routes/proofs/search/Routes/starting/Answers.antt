@@ -1,8 +1,7 @@
-use Rattle.std.proofs.Common.{rules, ◌≡◌, ◌<◌, ◌∙◌, List, [], ap, arith, length, map, slice_index_or, sym}
+use Rattle.std.proofs.Common.{rules, ◌≡◌, ◌<◌, ◌∙◌, [], ap, arith, length, map, slice_index_or, sym}
 use Rattle.std.proofs.lemmas.List.{get_or-map, length-map}
 use Rattle.hsr_run_laws.specs.Run.{Run}
-use Rattle.hsr_network_laws.specs.Network.{Channel}
-use Rattle.hsr_routes.specs.Started.{AreStarting, channels_from}
+use Rattle.hsr_routes.specs.Started.{AreStarting}
 use Rattle.hsr_routes.proofs.Started.{starting_at, starting_many}
 use Rattle.hsr_routes.proofs.search.Routes.starting.Goals as goal
 
