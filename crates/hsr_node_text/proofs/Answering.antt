@@ -1,5 +1,5 @@
 -- What is told is the answer of the node's step.
-use Rattle.std.proofs.Common.{◌≡◌, List, ℕ, Option, Some, None, option_map, Result, Ok, Err, ap, sym, subst}
+use Rattle.std.proofs.Common.{◌≡◌, List, ℕ, Option, Some, option_map, Result, Ok, Err, ap, sym, subst}
 use Rattle.hsr_text.specs.Words.{Gives}
 use Rattle.hsr_text.specs.declared.words.WordFault.{WordFault}
 use Rattle.hsr_text.specs.declared.words.WordFault.TheVariants.{Bad, Memory}

@@ -1,3 +1,4 @@
 pub mod Replies
 pub mod Digits
 mod Answering
+mod LastOctets

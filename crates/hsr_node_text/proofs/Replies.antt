@@ -1,5 +1,5 @@
 -- There is always something to answer.
-use Rattle.std.proofs.Common.{◌≡◌, ◌<◌, ◌++◌, ◌∷◌, [], List, ℕ, length, Bool, Option, Some, None, option_map, Result, Ok, Err, ap, sym, ◌∙◌, subst, arith, codes}
+use Rattle.std.proofs.Common.{◌≡◌, ◌<◌, ◌++◌, List, ℕ, length, Bool, Option, Some, None, option_map, Result, Ok, Err, ap, subst, arith, codes}
 use Rattle.std.proofs.lemmas.List.{length-append}
 use Rattle.hsr_frame.specs.Words.{cause_text}
 use Rattle.hsr_frame.specs.declared.counters.Counters.{Counters}
@@ -15,7 +15,7 @@ use Rattle.hsr_node.specs.declared.place.Place.{Place}
 use Rattle.hsr_node_text.specs.Request.{request_of}
 use Rattle.hsr_node_text.specs.declared.request.Request.{Request}
 use Rattle.hsr_node_text.specs.declared.request.Setting.{Setting}
-use Rattle.hsr_node_text.specs.Reply.{answer_of, answer_to, counter_line, leaving_text, outcome_line, outcome_text, passed_text, port_text, refusal_code, refused_text, replied, reply, verdict_text, word_if}
+use Rattle.hsr_node_text.specs.Reply.{answer_of, answer_to, counter_line, leaving_text, outcome_line, outcome_text, passed_text, port_text, refusal_code, refused_text, reply, verdict_text, word_if}
 
 pub some_before : (front rest : List ℕ) → 0 < length front → 0 < length (front ++ rest)
 some_before front rest h = simp length-append (omega arith)

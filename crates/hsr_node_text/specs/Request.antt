@@ -21,6 +21,12 @@ last_word words = do
   word ← word_at words
   elim word.1 [ None ↦ Some word.0 | Some _ ↦ None ]
 
+-- the octets that the last word spells
+abbrev pub last_octets : Option (List ℕ) → Option (List ℕ)
+last_octets words = do
+  word ← last_word words
+  hex_octets_of word
+
 -- the word of a VLAN tag's control information, if there is one, and nothing behind it
 abbrev pub vlan_of : Option (List ℕ) → Option (Option ℕ)
 vlan_of None = Some None
@@ -72,8 +78,7 @@ arrival_in setting words = do
   moment ← moment_of setting.unit at.0
   letter ← word_at at.1
   port ← port_in setting.place letter.0
-  word ← last_word letter.1
-  octets ← hex_octets_of word
+  octets ← last_octets letter.1
   Some (record { at = moment; event = Arrive port (record { probe = None; octets = octets }) })
 
 -- <at>

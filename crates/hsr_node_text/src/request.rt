@@ -1,10 +1,11 @@
 //! What an input line of `node` asks for.
 ghost use Rattle.std.specs.Prelude.{◌≡◌, option_map};
 ghost use Rattle.hsr_text.specs.Words.{Gives};
-ghost use Rattle.hsr_node_text.specs.Request.{about_of, age_in, arrival_in, last_word, life_in, port_in, request_of, send_in, vlan_of};
+ghost use Rattle.hsr_node_text.specs.Request.{about_of, age_in, arrival_in, last_octets, last_word, life_in, port_in, request_of, send_in, vlan_of};
 
 use hsr_frame::{About, Mac};
 use hsr_node::{Carried, Event, Octets, Place};
+use hsr_short_words::short_word;
 use hsr_text::{TimeUnit, WordFault, hex_octets, hex_pair, word};
 use std::alloc::Global;
 
@@ -28,7 +29,7 @@ pub struct Request {
 fn last_word<'a>(rest: Option<&'a [u8]>) -> Option<&'a [u8]>
     ensures { option_map (λ s. s.now) result ≡ last_word (option_map (λ s. s.now) rest.entry) }
 {
-    match word(rest) {
+    match short_word(rest) {
         Some((text, None)) => Some(text),
         // Nothing may follow, not even a space (RULES, Lines of `node`).
         _ => None,
@@ -58,6 +59,16 @@ fn read_about(rest: Option<&[u8]>) -> Result<About, WordFault>
     Ok(About::Proxied(mac))
 }
 
+/// The octets that the last word spells.
+#[tactic(auto, using(crate::proofs::LastOctets::spelled_by_all))]
+fn read_last_octets(alloc: Global, rest: Option<&[u8]>) -> Result<Octets, WordFault>
+    ensures { Gives (λ o. o) result (last_octets (option_map (λ s. s.now) rest.entry)) }
+{
+    // No space is searched for: it is no digit, so with one behind them these octets spell nothing.
+    let digits = rest.ok_or(WordFault::Bad)?;
+    Ok(Octets::new(hex_octets(alloc, digits)?))
+}
+
 /// The number of the port whose letter this word is, where the place has it.
 fn port_in(place: &Place, word: &[u8]) -> Option<u8>
     ensures { result ≡ port_in place.now word.now }
@@ -72,11 +83,11 @@ fn port_in(place: &Place, word: &[u8]) -> Option<u8>
 fn read_send(alloc: Global, unit: TimeUnit, rest: Option<&[u8]>) -> Result<Request, WordFault>
     ensures { Gives (λ r. r) result (send_in unit (option_map (λ s. s.now) rest.entry)) }
 {
-    let (digits, rest) = word(rest).ok_or(WordFault::Bad)?;
+    let (digits, rest) = short_word(rest).ok_or(WordFault::Bad)?;
     let at = unit.read(digits).ok_or(WordFault::Bad)?;
-    let (address, rest) = word(rest).ok_or(WordFault::Bad)?;
+    let (address, rest) = short_word(rest).ok_or(WordFault::Bad)?;
     let dst = Mac::from_ascii(address).ok().ok_or(WordFault::Bad)?;
-    let (digits, rest) = word(rest).ok_or(WordFault::Bad)?;
+    let (digits, rest) = short_word(rest).ok_or(WordFault::Bad)?;
     let ethertype = hex_pair(digits).ok_or(WordFault::Bad)?;
     let (digits, rest) = word(rest).ok_or(WordFault::Bad)?;
     let payload = Octets::new(hex_octets(alloc, digits)?);
@@ -96,7 +107,7 @@ fn read_send(alloc: Global, unit: TimeUnit, rest: Option<&[u8]>) -> Result<Reque
 fn read_life(unit: TimeUnit, rest: Option<&[u8]>) -> Result<Request, WordFault>
     ensures { Gives (λ r. r) result (life_in unit (option_map (λ s. s.now) rest.entry)) }
 {
-    let (digits, rest) = word(rest).ok_or(WordFault::Bad)?;
+    let (digits, rest) = short_word(rest).ok_or(WordFault::Bad)?;
     let at = unit.read(digits).ok_or(WordFault::Bad)?;
     let about = read_about(rest)?;
     let event = Event::Supervise(about);
@@ -107,12 +118,11 @@ fn read_life(unit: TimeUnit, rest: Option<&[u8]>) -> Result<Request, WordFault>
 fn read_arrival(alloc: Global, setting: &Setting, rest: Option<&[u8]>) -> Result<Request, WordFault>
     ensures { Gives (λ r. r) result (arrival_in setting.now (option_map (λ s. s.now) rest.entry)) }
 {
-    let (digits, rest) = word(rest).ok_or(WordFault::Bad)?;
+    let (digits, rest) = short_word(rest).ok_or(WordFault::Bad)?;
     let at = setting.unit.read(digits).ok_or(WordFault::Bad)?;
-    let (letter, rest) = word(rest).ok_or(WordFault::Bad)?;
+    let (letter, rest) = short_word(rest).ok_or(WordFault::Bad)?;
     let port = port_in(&setting.place, letter).ok_or(WordFault::Bad)?;
-    let digits = last_word(rest).ok_or(WordFault::Bad)?;
-    let octets = Octets::new(hex_octets(alloc, digits)?);
+    let octets = read_last_octets(alloc, rest)?;
     let carried = Carried {
         probe: None,
         octets,
@@ -138,7 +148,7 @@ fn read_age(unit: TimeUnit, rest: Option<&[u8]>) -> Result<Request, WordFault>
 pub fn read_request(alloc: Global, setting: &Setting, line: &[u8]) -> Result<Request, WordFault>
     ensures { Gives (λ r. r) result (request_of setting.now line.now) }
 {
-    let (verb, rest) = word(Some(line)).ok_or(WordFault::Bad)?;
+    let (verb, rest) = short_word(Some(line)).ok_or(WordFault::Bad)?;
     if verb == b"send".as_slice() {
         return read_send(alloc, setting.unit, rest);
     }
