@@ -14,7 +14,8 @@ use crate::words::{mac_fits, put_next_mac, put_number, put_word};
 use arrayvec::ArrayVec;
 use hsr_frame::{Mac, Mode, NoMemory};
 use hsr_node::{Place, Role};
-use hsr_text::{WordFault, decimal, put_decimal, split_at, word};
+use hsr_short_words::short_word;
+use hsr_text::{WordFault, decimal, put_decimal, split_at};
 use hsr_topology::End;
 use std::alloc::Global;
 
@@ -145,10 +146,10 @@ fn read_ring_node(rest: Option<&[u8]>) -> Option<(Mac, Mode)>
     ensures redbox { option_map (λ n. RedBox n.0 n.1) result
         ≡ read_ring_node RedBox (option_map (λ s. s.now) rest.entry) }
 {
-    let (address, rest) = word(rest)?;
+    let (address, rest) = short_word(rest)?;
     let mac = Mac::from_ascii(address).ok()?;
     // What follows the mode isn't looked at: `read_line` spells the line again and compares.
-    let (mode, _) = word(rest)?;
+    let (mode, _) = short_word(rest)?;
     let mode = Mode::from_word(mode)?;
     Some((mac, mode))
 }
@@ -160,7 +161,7 @@ fn read_macs(rest: Option<&[u8]>) -> Option<ArrayVec<Mac, 16>>
 {
     let mut macs = ArrayVec::<Mac, 16>::new();
     let mut left = rest;
-    while let Some((address, rest)) = word(left) {
+    while let Some((address, rest)) = short_word(left) {
         // A Station has 16 addresses at most (RULES, Stations).
         if macs.is_full() {
             return None;
@@ -187,7 +188,7 @@ fn read_station(rest: Option<&[u8]>) -> Option<Place>
 fn read_place(line: &[u8]) -> Option<Place>
     ensures { result ≡ read_place line.now }
 {
-    let (role, rest) = word(Some(line))?;
+    let (role, rest) = short_word(Some(line))?;
     match Role::from_word(role)? {
         Role::Danh => {
             let (mac, mode) = read_ring_node(rest)?;
@@ -218,10 +219,10 @@ fn read_end(places: &[Place], word: &[u8]) -> Option<End>
 fn read_link(places: &[Place], line: &[u8]) -> Option<[End; 2]>
     ensures { result ≡ read_link places.now line.now }
 {
-    let (first, rest) = word(Some(line))?;
+    let (first, rest) = short_word(Some(line))?;
     let a = read_end(places, first)?;
     // What follows isn't looked at: `read_line` spells the line again and compares.
-    let (second, _) = word(rest)?;
+    let (second, _) = short_word(rest)?;
     let b = read_end(places, second)?;
     Some([a, b])
 }
@@ -231,7 +232,7 @@ fn number_behind(line: &[u8]) -> Option<u64>
     ensures { result ≡ number_in (cut 32 line.now).1 }
 {
     // The name isn't looked at: `read_line` spells the line again and compares.
-    let (_, rest) = word(Some(line))?;
+    let (_, rest) = short_word(Some(line))?;
     decimal(rest?)
 }
 

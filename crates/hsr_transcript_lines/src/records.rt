@@ -14,6 +14,7 @@ use crate::words::{
 };
 use hsr_frame::{Mac, NoMemory};
 use hsr_node::{Carried, Entry, Event, Octets, Outcome, Place};
+use hsr_short_words::short_word;
 use hsr_text::{TimeUnit, WordFault, hex_octets, hex_pair, put_decimal, word};
 use std::alloc::Global;
 
@@ -172,13 +173,13 @@ fn read_send<'a>(alloc: Global, rest: Option<&'a [u8]>) -> Result<Leading<'a>, W
         → codes "send" ++ after (option_map (λ s. s.now) rest.entry)
         ≡ event_text place e.event ++ after (option_map (λ s. s.now) e.rest)) }
 {
-    let (from, rest) = word(rest).ok_or(WordFault::Bad)?;
+    let (from, rest) = short_word(rest).ok_or(WordFault::Bad)?;
     let from = read_octet(from).ok_or(WordFault::Bad)?;
-    let (address, rest) = word(rest).ok_or(WordFault::Bad)?;
+    let (address, rest) = short_word(rest).ok_or(WordFault::Bad)?;
     let dst = Mac::from_ascii(address).ok().ok_or(WordFault::Bad)?;
-    let (control, rest) = word(rest).ok_or(WordFault::Bad)?;
+    let (control, rest) = short_word(rest).ok_or(WordFault::Bad)?;
     let vlan = read_vlan(control).ok_or(WordFault::Bad)?;
-    let (pair, rest) = word(rest).ok_or(WordFault::Bad)?;
+    let (pair, rest) = short_word(rest).ok_or(WordFault::Bad)?;
     let ethertype = hex_pair(pair).ok_or(WordFault::Bad)?;
     let (digits, rest) = word(rest).ok_or(WordFault::Bad)?;
     let payload = Octets::new(hex_octets(alloc, digits)?);
@@ -200,7 +201,7 @@ fn read_life<'a>(rest: Option<&'a [u8]>) -> Option<Leading<'a>>
         ≡ read_life (option_map (λ s. s.now) rest.entry) }
     ensures unsure { IfSome result (λ e. e.sure ≡ false) }
 {
-    let (about, rest) = word(rest)?;
+    let (about, rest) = short_word(rest)?;
     let about = read_about(about)?;
     Some(Leading {
         event: Event::Supervise(about),
@@ -223,9 +224,9 @@ fn read_arrive<'a>(
         → codes "arrive" ++ after (option_map (λ s. s.now) rest.entry)
         ≡ event_text place.now e.event ++ after (option_map (λ s. s.now) e.rest)) }
 {
-    let (name, rest) = word(rest).ok_or(WordFault::Bad)?;
+    let (name, rest) = short_word(rest).ok_or(WordFault::Bad)?;
     let port = read_port(place, name).ok_or(WordFault::Bad)?;
-    let (probe, rest) = word(rest).ok_or(WordFault::Bad)?;
+    let (probe, rest) = short_word(rest).ok_or(WordFault::Bad)?;
     let probe = Some(read_probe(probe).ok_or(WordFault::Bad)?);
     let (digits, rest) = word(rest).ok_or(WordFault::Bad)?;
     let octets = Octets::new(hex_octets(alloc, digits)?);
@@ -250,7 +251,7 @@ fn read_event<'a>(
         → after (option_map (λ s. s.now) rest.entry)
         ≡ 32 ∷ (event_text place.now e.event ++ after (option_map (λ s. s.now) e.rest))) }
 {
-    let (verb, rest) = word(rest).ok_or(WordFault::Bad)?;
+    let (verb, rest) = short_word(rest).ok_or(WordFault::Bad)?;
     if verb == b"send".as_slice() {
         return read_send(alloc, rest);
     }
@@ -274,7 +275,7 @@ fn read_event<'a>(
 fn read_sent(place: &Place, rest: Option<&[u8]>) -> Option<Outcome>
     ensures { result ≡ read_sent place.now (option_map (λ s. s.now) rest.entry) }
 {
-    let (seq, rest) = word(rest)?;
+    let (seq, rest) = short_word(rest)?;
     let seq = read_seq(seq)?;
     let ports = read_ports(place, tail_of(rest));
     Some(Outcome::Sent { seq, ports })
@@ -284,9 +285,9 @@ fn read_sent(place: &Place, rest: Option<&[u8]>) -> Option<Outcome>
 fn read_lived(place: &Place, rest: Option<&[u8]>) -> Option<Outcome>
     ensures { result ≡ read_lived place.now (option_map (λ s. s.now) rest.entry) }
 {
-    let (seq, rest) = word(rest)?;
+    let (seq, rest) = short_word(rest)?;
     let seq = read_number(seq)?;
-    let (life, rest) = word(rest)?;
+    let (life, rest) = short_word(rest)?;
     let life = read_number(life)?;
     let ports = read_ports(place, tail_of(rest));
     Some(Outcome::Life { seq, life, ports })
@@ -296,9 +297,9 @@ fn read_lived(place: &Place, rest: Option<&[u8]>) -> Option<Outcome>
 fn read_judged(place: &Place, rest: Option<&[u8]>) -> Option<Outcome>
     ensures { result ≡ read_judged place.now (option_map (λ s. s.now) rest.entry) }
 {
-    let (cause, rest) = word(rest)?;
+    let (cause, rest) = short_word(rest)?;
     let cause = read_cause(cause)?;
-    let (seq, rest) = word(rest)?;
+    let (seq, rest) = short_word(rest)?;
     let seq = read_seq(seq)?;
     let tail = tail_of(rest);
     // No port has the letter `u`, so it is enough to find it: the spelling is compared afterwards.
@@ -317,7 +318,7 @@ fn read_judged(place: &Place, rest: Option<&[u8]>) -> Option<Outcome>
 fn read_outcome(place: &Place, rest: Option<&[u8]>) -> Option<Outcome>
     ensures { result ≡ read_outcome place.now (option_map (λ s. s.now) rest.entry) }
 {
-    let (verb, rest) = word(rest)?;
+    let (verb, rest) = short_word(rest)?;
     if verb == b"sent".as_slice() {
         return read_sent(place, rest);
     }
@@ -364,12 +365,12 @@ fn read_entry(
     ensures said { Gives (λ e. e.0) result (read_entry unit place.now line.now) }
     ensures sure { IfOk result (λ e. e.1 ≡ true → entry_text unit place.now e.0 ≡ line.now) }
 {
-    let (worker, rest) = word(Some(line)).ok_or(WordFault::Bad)?;
+    let (worker, rest) = short_word(Some(line)).ok_or(WordFault::Bad)?;
     let worker = read_number(worker).ok_or(WordFault::Bad)?;
-    let (at, rest) = word(rest).ok_or(WordFault::Bad)?;
+    let (at, rest) = short_word(rest).ok_or(WordFault::Bad)?;
     let at = unit.read(at).ok_or(WordFault::Bad)?;
     let Leading { event, rest, sure } = read_event(alloc, place, rest)?;
-    let (equals, rest) = word(rest).ok_or(WordFault::Bad)?;
+    let (equals, rest) = short_word(rest).ok_or(WordFault::Bad)?;
     let outcome = read_outcome(place, rest).ok_or(WordFault::Bad)?;
     // Only the short outcome is spelled again: the event's octets are most of a line.
     let Ok(spelled) = is_text_of(room, place, &outcome, rest) else {

@@ -8,6 +8,7 @@ use crate::words::{carried_fits, put_octets, put_probe, put_word};
 use hsr_frame::NoMemory;
 use hsr_link::{Dir, Row};
 use hsr_node::{Carried, Octets};
+use hsr_short_words::short_word;
 use hsr_text::{WordFault, hex_octets, word};
 use std::alloc::Global;
 
@@ -32,13 +33,13 @@ fn read_row(alloc: Global, line: &[u8]) -> Result<(Row, bool), WordFault>
     ensures said { Gives (λ r. r.0) result (read_row line.now) }
     ensures sure { IfOk result (λ r. r.1 ≡ true → row_text r.0 ≡ line.now) }
 {
-    let (dir, rest) = word(Some(line)).ok_or(WordFault::Bad)?;
+    let (dir, rest) = short_word(Some(line)).ok_or(WordFault::Bad)?;
     let dir = Dir::from_word(dir).ok_or(WordFault::Bad)?;
-    let (probe, rest) = word(rest).ok_or(WordFault::Bad)?;
+    let (probe, rest) = short_word(rest).ok_or(WordFault::Bad)?;
     let probe = Some(read_probe(probe).ok_or(WordFault::Bad)?);
     let (digits, rest) = word(rest).ok_or(WordFault::Bad)?;
     let octets = Octets::new(hex_octets(alloc, digits)?);
-    let (fate, rest) = word(rest).ok_or(WordFault::Bad)?;
+    let (fate, rest) = short_word(rest).ok_or(WordFault::Bad)?;
     let fate = read_fate(fate).ok_or(WordFault::Bad)?;
     let sure = is_upper(digits) & rest.is_none();
     let row = Row {
