@@ -1,9 +1,10 @@
 //! The lines that answer an event, and the line of counters.
-ghost use Rattle.std.specs.Prelude.{◌≡◌, ◌≤◌, ◌^◌, ◌++◌, ◌∷◌, [], codes, OnOk};
+ghost use Rattle.std.specs.Prelude.{◌≡◌, ◌≤◌, ◌^◌, ◌++◌, ◌∷◌, [], Some, codes, OnOk};
 ghost use Rattle.std.specs.Fmt.{decimal};
 ghost use Rattle.hex.specs.Hex.{encode_upper};
 ghost use Rattle.hsr_frame.specs.Counters.{AreWithin};
 ghost use Rattle.hsr_frame.specs.Words.{cause_text, fault_text};
+ghost use Rattle.hsr_node.specs.Copies.{up_octets};
 ghost use Rattle.hsr_node_text.specs.Reply.{copies_text, copy_text, counter_line, is_told_again, leaving_text, number_text, outcome_line, outcome_text, passed_text, port_text, refusal_code, refused_text, stopped_text, verdict_text, word_if};
 
 use hsr_frame::{Cause, Counters, FrameFault, NoMemory};
@@ -20,21 +21,14 @@ fn put_spelled(text: &mut Vec<u8>, spelled: &Spelled<'_>) -> Result<(), NoMemory
     put_hex(text, rest)
 }
 
-/// Puts the line of an egress with the octets that leave by it, if some do.
-fn put_leaving(
-    text: &mut Vec<u8>,
-    egress: &[u8],
-    octets: Option<Spelled<'_>>,
-) -> Result<(), NoMemory>
+/// Puts the line of an egress with the octets that leave by it.
+fn put_leaving(text: &mut Vec<u8>, egress: &[u8], octets: &Spelled<'_>) -> Result<(), NoMemory>
     ensures { OnOk result (text.new.items
-        ≡ text.old.items ++ leaving_text egress.now octets.entry) }
+        ≡ text.old.items ++ leaving_text egress.now (Some octets.now)) }
 {
-    let Some(octets) = octets else {
-        return Ok(());
-    };
     put_octets(text, egress)?;
     text.push(b' ')?;
-    put_spelled(text, &octets)?;
+    put_spelled(text, octets)?;
     put(text, "\n")
 }
 
@@ -49,12 +43,25 @@ fn put_copy(
     ensures { OnOk result (text.new.items
         ≡ text.old.items ++ copy_text place.now event.now outcome.now port) }
 {
-    let letter = [place.letter(port)];
-    put_leaving(
-        text,
-        letter.as_slice(),
-        spelled_out(place, event, outcome, port),
-    )
+    match spelled_out(place, event, outcome, port) {
+        None => Ok(()),
+        Some(octets) => {
+            let letter = [place.letter(port)];
+            put_leaving(text, letter.as_slice(), &octets)
+        }
+    }
+}
+
+/// Puts the line of what goes up, if something does.
+fn put_up(text: &mut Vec<u8>, event: &Event, outcome: &Outcome) -> Result<(), NoMemory>
+    ensures { OnOk result (text.new.items
+        ≡ text.old.items ++ leaving_text (codes "up") (up_octets event.now outcome.now)) }
+{
+    // An outcome holds no frame, so what goes up is read anew from the octets that came.
+    match spelled_up(event, outcome) {
+        None => Ok(()),
+        Some(octets) => put_leaving(text, b"up", &octets),
+    }
 }
 
 /// Puts the lines of what leaves by the ports, in the order of their numbers.
@@ -111,9 +118,12 @@ fn put_if(text: &mut Vec<u8>, said: bool, word: &[u8]) -> Result<(), NoMemory>
 fn put_port(text: &mut Vec<u8>, place: &Place, ports: &[bool; 4], port: u8) -> Result<(), NoMemory>
     ensures { OnOk result (text.new.items ≡ text.old.items ++ port_text place.now ports.now port) }
 {
-    let leaves = ports.get(usize::from(port)).copied().unwrap_or(false);
+    // The letter is asked for only where it is put.
+    if !ports.get(usize::from(port)).copied().unwrap_or(false) {
+        return Ok(());
+    }
     let word = [b' ', place.letter(port)];
-    put_if(text, leaves, word.as_slice())
+    put_octets(text, word.as_slice())
 }
 
 /// Puts the number of a fault behind a space, if there is one.
@@ -204,8 +214,7 @@ pub fn put_outcome(
         ≡ text.old.items ++ outcome_text place.now event.now outcome.now) }
 {
     put_outcome_line(text, place, outcome)?;
-    // An outcome holds no frame, so what goes up is read anew from the octets that came.
-    put_leaving(text, b"up", spelled_up(event, outcome))?;
+    put_up(text, event, outcome)?;
     if is_told_again(place, outcome) {
         return put_copies(text, place, event, outcome);
     }
