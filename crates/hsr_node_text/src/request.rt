@@ -1,7 +1,7 @@
 //! What an input line of `node` asks for.
 ghost use Rattle.std.specs.Prelude.{◌≡◌, option_map};
 ghost use Rattle.hsr_text.specs.Words.{Gives};
-ghost use Rattle.hsr_node_text.specs.Request.{about_of, age_in, arrival_in, last_octets, last_word, life_in, port_in, request_of, send_in, vlan_of};
+ghost use Rattle.hsr_node_text.specs.Request.{about_of, age_in, arrival_in, last_word, life_in, port_in, request_of, send_in, vlan_of};
 
 use hsr_frame::{About, Mac};
 use hsr_node::{Carried, Event, Octets, Place};
@@ -59,16 +59,6 @@ fn read_about(rest: Option<&[u8]>) -> Result<About, WordFault>
     Ok(About::Proxied(mac))
 }
 
-/// The octets that the last word spells.
-#[tactic(auto, using(crate::proofs::LastOctets::spelled_by_all))]
-fn read_last_octets(alloc: Global, rest: Option<&[u8]>) -> Result<Octets, WordFault>
-    ensures { Gives (λ o. o) result (last_octets (option_map (λ s. s.now) rest.entry)) }
-{
-    // No space is searched for: it is no digit, so with one behind them these octets spell nothing.
-    let digits = rest.ok_or(WordFault::Bad)?;
-    Ok(Octets::new(hex_octets(alloc, digits)?))
-}
-
 /// The number of the port whose letter this word is, where the place has it.
 fn port_in(place: &Place, word: &[u8]) -> Option<u8>
     ensures { result ≡ port_in place.now word.now }
@@ -115,6 +105,7 @@ fn read_life(unit: TimeUnit, rest: Option<&[u8]>) -> Result<Request, WordFault>
 }
 
 /// Reads `<at> <port> <octets>`, with the letter of a port that the node has.
+#[tactic(auto, using(crate::proofs::LastOctets::spelled_by_all))]
 fn read_arrival(alloc: Global, setting: &Setting, rest: Option<&[u8]>) -> Result<Request, WordFault>
     ensures { Gives (λ r. r) result (arrival_in setting.now (option_map (λ s. s.now) rest.entry)) }
 {
@@ -122,7 +113,9 @@ fn read_arrival(alloc: Global, setting: &Setting, rest: Option<&[u8]>) -> Result
     let at = setting.unit.read(digits).ok_or(WordFault::Bad)?;
     let (letter, rest) = short_word(rest).ok_or(WordFault::Bad)?;
     let port = port_in(&setting.place, letter).ok_or(WordFault::Bad)?;
-    let octets = read_last_octets(alloc, rest)?;
+    // No space is searched for: it is no digit, so with one behind the digits these octets spell nothing.
+    let digits = rest.ok_or(WordFault::Bad)?;
+    let octets = Octets::new(hex_octets(alloc, digits)?);
     let carried = Carried {
         probe: None,
         octets,
