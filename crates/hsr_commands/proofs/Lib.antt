@@ -4,3 +4,4 @@ pub mod Telling
 mod Opening
 mod Runs
 mod Putting
+mod Standing

@@ -1,6 +1,8 @@
 //! The run of `node` over a reader and a writer.
-ghost use Rattle.std.specs.Prelude.{◌≡◌, ◌≢◌, ◌<◌, ◌≤◌, ◌^◌, ℕ, IfErr, IfSome, List, OnOk, Option, length};
+ghost use Rattle.std.specs.Prelude.{◌≡◌, ◌≢◌, ◌<◌, ◌≤◌, ◌^◌, ℕ, IfErr, IfSome, List, OnOk, Option, Some, length};
+ghost use Rattle.std.specs.Io.Buffered.{reader_remaining};
 ghost use Rattle.hsr_text.specs.Lines.{ReadsFront, lines_of};
+ghost use Rattle.hsr_text.specs.Words.{cut};
 ghost use Rattle.hsr_duptable.specs.Table.{IsTableSize};
 ghost use Rattle.hsr_node.specs.Place.{HasOwnAddress};
 ghost use Rattle.hsr_node.specs.Step.{new_node};
@@ -14,7 +16,7 @@ use hsr_node::{Node, Place};
 use hsr_node_text::{Setting, answer_line, put_counters};
 use hsr_options::{NodeOptions, NodeRole};
 use hsr_table_size::at_size;
-use hsr_text::{Front, WordFault, granted_reads, next_line};
+use hsr_text::{Front, WordFault, granted_reads, next_line, split_at};
 use std::alloc::Global;
 use std::io::{BufRead, BufReader, Read, Write};
 
@@ -90,24 +92,70 @@ fn answer_front<W: Write, const C: usize>(
     }
 }
 
-/// Reads and answers the next line, and tells whether more may follow.
-fn turn<R: BufRead, W: Write, const C: usize>(
+/// The line that a buffer begins with, where it is whole there, is no longer than a line may be, and is paid for by the reads that are
+/// left.
+fn line_there(buffer: &[u8], reads: u64) -> Option<&[u8]>
+    ensures first { IfSome result (λ line. (rest : List ℕ) × (cut 10 buffer.now ≡ (line.now, Some rest))) }
+    ensures short { IfSome result (λ line. length line.now ≤ LINE_LIMIT) }
+    ensures paid { IfSome result (λ line. length line.now < reads) }
+{
+    match split_at(buffer, b'\n') {
+        (line, Some(_)) if line.len() <= LINE_LIMIT && (line.len() as u64) < reads => Some(line),
+        _ => None,
+    }
+}
+
+/// Gathers the next line, however the reader cuts it into pieces, and answers it, and tells whether more may follow.
+fn gathered_turn<R: Read, W: Write, const C: usize>(
     alloc: Global,
     setting: &Setting,
     node: &mut Node<C>,
     number: u64,
-    reader: &mut R,
+    reader: &mut BufReader<R>,
     reads: &mut u64,
     writer: &mut W,
     room: &mut Room,
 ) -> Result<bool, Fault>
-    ensures turned { Turned C setting.now (R.remaining reader.old) (R.remaining reader.new)
+    ensures turned { Turned C setting.now (reader_remaining R.remaining reader.old) (reader_remaining R.remaining reader.new)
         (W.contents writer.old) (W.contents writer.new) node.old node.new number result }
     ensures fewer { OnOk result (reads.new < reads.old) }
     ensures bounded { reads.new ≤ reads.old }
 {
     let front = next_line(reader, reads, &mut room.line)?;
     answer_front(alloc, setting, node, number, front, writer, room)
+}
+
+/// Answers the next line, and tells whether more may follow.
+fn turn<R: Read, W: Write, const C: usize>(
+    alloc: Global,
+    setting: &Setting,
+    node: &mut Node<C>,
+    number: u64,
+    reader: &mut BufReader<R>,
+    reads: &mut u64,
+    writer: &mut W,
+    room: &mut Room,
+) -> Result<bool, Fault>
+    ensures turned { Turned C setting.now (reader_remaining R.remaining reader.old) (reader_remaining R.remaining reader.new)
+        (W.contents writer.old) (W.contents writer.new) node.old node.new number result }
+    ensures fewer { OnOk result (reads.new < reads.old) }
+    ensures bounded { reads.new ≤ reads.old }
+{
+    // Most lines stand whole in the buffer, and are answered where they stand.
+    match line_there(reader.buffer(), *reads) {
+        None => gathered_turn(alloc, setting, node, number, reader, reads, writer, room),
+        Some(line) => {
+            let taken = line.len() + 1;
+            match serve(alloc, setting, node, number, line, writer, &mut room.text) {
+                Ok(()) => {
+                    *reads -= taken as u64;
+                    reader.consume(taken);
+                    Ok(true)
+                }
+                Err(fault) => Err(fault),
+            }
+        }
+    }
 }
 
 /// Writes the line at the end.
@@ -128,9 +176,9 @@ fn finish<W: Write, const C: usize>(
 
 /// Reads all lines with the reads that are granted, and answers each by a node that has done nothing.
 #[tactic(auto, using(crate::proofs::Turns::way_begins, crate::proofs::Turns::way_on, crate::proofs::Turns::way_fails, crate::proofs::Turns::way_ends))]
-fn answer_lines<R: BufRead, W: Write, const C: usize>(
+fn answer_lines<R: Read, W: Write, const C: usize>(
     alloc: Global,
-    reader: &mut R,
+    reader: &mut BufReader<R>,
     writer: &mut W,
     reads: &mut u64,
     setting: &Setting,
@@ -139,7 +187,7 @@ fn answer_lines<R: BufRead, W: Write, const C: usize>(
 ) -> Result<(), Fault>
     requires new { node.old ≡ new_node C setting.now.place }
     requires granted { reads.old ≡ 2 ^ 40 }
-    ensures { Ran C setting.now (R.remaining reader.old) (W.contents writer.old)
+    ensures { Ran C setting.now (reader_remaining R.remaining reader.old) (W.contents writer.old)
         (W.contents writer.new) result }
 {
     let mut number = 1u64;
@@ -154,9 +202,9 @@ fn answer_lines<R: BufRead, W: Write, const C: usize>(
 }
 
 /// Makes the node, and answers all lines with the reads that are granted.
-fn run<R: BufRead, W: Write, const C: usize>(
+fn run<R: Read, W: Write, const C: usize>(
     alloc: Global,
-    reader: &mut R,
+    reader: &mut BufReader<R>,
     writer: &mut W,
     reads: &mut u64,
     setting: &Setting,
@@ -164,7 +212,7 @@ fn run<R: BufRead, W: Write, const C: usize>(
     requires station { HasOwnAddress setting.now.place }
     requires entries { IsTableSize C }
     requires granted { reads.old ≡ 2 ^ 40 }
-    ensures { Ran C setting.now (R.remaining reader.old) (W.contents writer.old)
+    ensures { Ran C setting.now (reader_remaining R.remaining reader.old) (W.contents writer.old)
         (W.contents writer.new) result }
 {
     let mut node = match Node::<C>::new(alloc, &setting.place) {
