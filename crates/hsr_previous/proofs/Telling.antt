@@ -1,12 +1,11 @@
 -- What a table tells of the previous thing with a key, one thing after the other.
-use Rattle.std.proofs.Common.{◌≡◌, ◌≢◌, ℕ, zero, suc, ◌+◌, ◌<◌, ◌≤◌, Bool, true, false, cond, List, [], ◌∷◌, ◌++◌, length, get_or, refl, sym, ap, subst, ◌∙◌, arith, below_more, Option, Some, None}
-use Rattle.std.specs.Prelude.{nat_eq, IfNone, IfSome, option_map, slice_get, slice_index_or}
+use Rattle.std.proofs.Common.{◌≡◌, ◌≢◌, ℕ, zero, suc, ◌+◌, ◌<◌, ◌≤◌, Bool, true, false, cond, List, [], ◌∷◌, length, get_or, refl, sym, ap, subst, ◌∙◌, arith, below_more, Option, Some, None}
+use Rattle.std.specs.Prelude.{nat_eq, IfNone, IfSome, option_map, slice_get}
 use Rattle.std.proofs.lemmas.Bool.{eqb-true, eqb-false}
-use Rattle.std.proofs.lemmas.List.{get_or_append_left, get_or_push}
 use Rattle.hsr_recent_table.specs.Recent.{Knows, Put, horizon_of, latest, moment_of, value_of}
 use Rattle.hsr_recent_table.specs.declared.table.RecentTable.{RecentTable}
 use Rattle.hsr_previous.specs.declared.previous.Keyed.{Keyed}
-use Rattle.hsr_previous.specs.Previous.{EachMoment, HasOther, IsLatestBefore, IsPrevious, IsPreviousOf}
+use Rattle.hsr_previous.specs.Previous.{HasOther, IsLatestBefore, IsPreviousOf}
 use Rattle.hsr_previous.specs.Ready.{IsReady, IsTold, IsToldBy, put_for}
 
 pub there : {X : Type 0} (xs : List X) (i : ℕ) (x : X) → i < length xs → x ≡ get_or xs i x → slice_get xs i ≡ Some x
@@ -123,15 +122,7 @@ one_more_ready horizon things old new i puts thing time ready here knows moment 
     before : (k : ℕ) → k < i + 1 → (t : Keyed) → slice_get things k ≡ Some t → t.at ≤ moment_of new
     before = below_more _ _ (λ k below t there. let h = earlier k t below there in omega (arith, h, moment)) own
 
--- ---- what is found, with one more
-
-pub one_more_found : (horizon : ℕ) (things : List Keyed) (found : List (Option ℕ)) (i : ℕ) (previous : Option ℕ) → length found ≡ i
-    → ((k : ℕ) → k < i → IsPrevious horizon things k (slice_index_or found k None)) → IsPrevious horizon things i previous
-    → (k : ℕ) → k < i + 1 → IsPrevious horizon things k (slice_index_or (found ++ previous ∷ []) k None)
-one_more_found horizon things found i previous long each is =
-    below_more _ _
-    (λ k lt. let fits : k < length found = omega arith in subst (IsPrevious horizon things k) (sym (get_or_append_left found (previous ∷ []) None k fits)) (each k lt))
-    (subst (IsPrevious horizon things i) (sym (get_or_push found previous None i long)) is)
+-- ---- what is found
 
 -- what a table finds is the previous one
 pub told_is : (horizon since moment : ℕ) (things : List Keyed) (i : ℕ) (thing : Keyed) (put : Option Put) (found : Option ℕ) → since ≡ horizon → moment ≤ thing.at
@@ -139,10 +130,3 @@ pub told_is : (horizon since moment : ℕ) (things : List Keyed) (i : ℕ) (thin
     → IsPreviousOf horizon things i thing found
 told_is horizon since moment things i thing put None is later told some none = missing_is horizon since moment things i thing put is later told none
 told_is horizon since moment things i thing put (Some j) is later told some none = found_is horizon things i thing put j told some
-
--- the previous one of the thing that is at an index
-pub only_thing : (horizon : ℕ) (things : List Keyed) (i : ℕ) (thing : Keyed) (found : Option ℕ) → slice_get things i ≡ Some thing → IsPreviousOf horizon things i thing found
-    → IsPrevious horizon things i found
-only_thing horizon things i thing found here is other there =
-    let same : thing ≡ other = same_there thing other (sym here ∙ there) in
-    subst (λ (t : Keyed). IsPreviousOf horizon things i t found) same is

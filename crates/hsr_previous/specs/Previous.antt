@@ -1,7 +1,7 @@
 -- Of each thing, the previous one with its key.
---     IsPrevious     what is found for the thing at an index: the index of the latest one before it that has its key; or nothing,
+--     IsPreviousOf   what is found for a thing at an index: the index of the latest one before it that has its key; or nothing,
 --                    where each of them is a horizon older or more
-use Rattle.std.specs.Prelude.{ℕ, ◌≡◌, ◌≢◌, ◌+◌, ◌<◌, ◌≤◌, List, length, slice_get, slice_index_or, Option, Some, None}
+use Rattle.std.specs.Prelude.{ℕ, ◌≡◌, ◌≢◌, ◌+◌, ◌<◌, ◌≤◌, List, slice_get, Option, Some, None}
 use Rattle.hsr_previous.specs.declared.previous.Keyed.{Keyed}
 
 -- the thing at an index has a key
@@ -27,13 +27,6 @@ pub record IsLatestBefore (things : List Keyed) (key i j : ℕ) : Type 0 where
 abbrev pub IsPreviousOf : ℕ → List Keyed → ℕ → Keyed → Option ℕ → Type 0
 IsPreviousOf horizon things i thing None = EachMoment things thing.key i (λ at. at + horizon ≤ thing.at)
 IsPreviousOf horizon things i thing (Some j) = IsLatestBefore things thing.key i j
-
-abbrev pub IsPrevious : ℕ → List Keyed → ℕ → Option ℕ → Type 0
-IsPrevious horizon things i found = (thing : Keyed) → slice_get things i ≡ Some thing → IsPreviousOf horizon things i thing found
-
-pub record ArePrevious (horizon : ℕ) (things : List Keyed) (found : List (Option ℕ)) : Type 0 where
-  pub each : (i : ℕ) → i < length found → IsPrevious horizon things i (slice_index_or found i None)
-  pub long : length found ≡ length things
 
 -- no thing comes before one that stands in front of it
 abbrev pub AreInTime : List Keyed → Type 0

@@ -3,6 +3,7 @@ use Rattle.std.specs.Prelude.{ℕ, ◌≡◌, ◌<◌, ◌≤◌, List, slice_ge
 use Rattle.hsr_recent_table.specs.Recent.{Knows, Put, horizon_of, latest, moment_of}
 use Rattle.hsr_recent_table.specs.declared.table.RecentTable.{RecentTable}
 use Rattle.hsr_previous.specs.declared.previous.Keyed.{Keyed}
+use Rattle.hsr_previous.specs.declared.previous.Previous.{Previous}
 use Rattle.hsr_previous.specs.Previous.{EachMoment, HasOther, IsLatestBefore}
 
 -- what is put for a thing: its moment, its key and its index
@@ -25,3 +26,11 @@ pub record IsReady (horizon : ℕ) (things : List Keyed) (table : RecentTable) (
   pub before : (k : ℕ) (t : Keyed) → k < i → slice_get things k ≡ Some t → t.at ≤ moment_of table
   pub next : (t : Keyed) → slice_get things i ≡ Some t → moment_of table ≤ t.at
   pub forgets : horizon_of table ≡ horizon
+
+-- the things before an index have come
+abbrev pub HaveCome : ℕ → List Keyed → ℕ → Previous → Type 0
+HaveCome horizon things i previous = (puts : List Put) × IsReady horizon things previous.table i puts
+
+-- the moment of the last one
+abbrev pub latest_of : Previous → ℕ
+latest_of previous = moment_of previous.table

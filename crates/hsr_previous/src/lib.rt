@@ -6,4 +6,4 @@
 
 mod previous;
 
-pub use previous::{Keyed, previous_of};
+pub use previous::{Keyed, Previous};

@@ -1,9 +1,9 @@
 //! The previous thing with the same key.
-ghost use Rattle.std.specs.Prelude.{◌≡◌, ℕ, ◌<◌, ◌≤◌, ◌^◌, ◌∷◌, List, length, IfOk, OnOk};
+ghost use Rattle.std.specs.Prelude.{◌≡◌, ℕ, ◌+◌, ◌≤◌, ◌∷◌, List, slice_get, IfOk, OnOk, Some};
 ghost use Rattle.hsr_recent_table.specs.Recent.{Knows, Put, horizon_of, moment_of};
-ghost use Rattle.hsr_previous.specs.Previous.{AreInTime, ArePrevious, IsPreviousOf};
+ghost use Rattle.hsr_previous.specs.Previous.{AreInTime, IsPreviousOf};
 ghost use Rattle.hsr_previous.specs.declared.previous.Keyed.{Keyed};
-ghost use Rattle.hsr_previous.specs.Ready.{IsReady, put_for};
+ghost use Rattle.hsr_previous.specs.Ready.{HaveCome, IsReady, latest_of, put_for};
 
 use hsr_frame::NoMemory;
 use hsr_recent_table::RecentTable;
@@ -37,24 +37,32 @@ fn put_thing(alloc: Global, table: &mut RecentTable, thing: Keyed, i: u32) -> Re
     Ok(())
 }
 
-/// Of each thing, in the order of time, the index of the previous one with its key. None where there is none, or where it is as old as
-/// the horizon says, or older. `NoMemory` where room is refused; beside the answer no more is kept than the things of two horizons.
-pub fn previous_of(
-    alloc: Global,
-    things: &[Keyed],
-    horizon: u64,
-) -> Result<Vec<Option<u32>>, NoMemory>
-    requires time { AreInTime things.now }
-    requires few { length things.now < 2 ^ 32 }
-    ensures { IfOk result (λ found. ArePrevious horizon things.now found.items) }
-{
-    let mut table = RecentTable::new(alloc, horizon);
-    let mut found = Vec::with_capacity(alloc, things.len())?;
-    for i in 0..things.len() {
-        let thing = things[i];
-        let previous = previous_in(&table, thing.key);
-        put_thing(alloc, &mut table, thing, i as u32)?;
-        found.push(previous)?;
+/// The things so far, in the order of time, by a table that keeps no more than those of two horizons.
+#[derive(Drop)]
+pub struct Previous {
+    table: RecentTable,
+}
+
+impl Previous {
+    /// Nothing came yet.
+    pub fn new(alloc: Global, horizon: u64) -> Previous
+        ensures { (things : List Keyed) → HaveCome horizon things 0 result }
+    {
+        Previous {
+            table: RecentTable::new(alloc, horizon),
+        }
     }
-    Ok(found)
+
+    /// The index of the previous thing with the key of one that comes, whose index is told. None where there is none, or where it is as old
+    /// as the horizon says, or older. `NoMemory` where room is refused.
+    pub fn next(&mut self, alloc: Global, thing: Keyed, i: u32) -> Result<Option<u32>, NoMemory>
+        requires { latest_of self.old ≤ thing.at }
+        ensures found { IfOk result (λ found. (horizon : ℕ) (things : List Keyed) → HaveCome horizon things i self.old → IsPreviousOf horizon things i thing found) }
+        ensures come { OnOk result ((horizon : ℕ) (things : List Keyed) → AreInTime things → slice_get things i ≡ Some thing → HaveCome horizon things i self.old
+            → HaveCome horizon things (i + 1) self.new) }
+    {
+        let previous = previous_in(&self.table, thing.key);
+        put_thing(alloc, &mut self.table, thing, i)?;
+        Ok(previous)
+    }
 }

@@ -1,18 +1,18 @@
 -- How often a direction carried a frame before.
-use Rattle.std.proofs.Common.{◌≡◌, ℕ, zero, suc, ◌+◌, ◌-◌, ◌<◌, ◌≤◌, Bool, true, false, cond, ◌&&◌, List, [], ◌∷◌, length, refl, sym, ap, subst, ◌∙◌, arith, Option, Some, None}
+use Rattle.std.proofs.Common.{◌≡◌, ℕ, ◌+◌, ◌-◌, ◌<◌, ◌≤◌, Bool, true, false, cond, ◌&&◌, List, ◌∷◌, length, refl, sym, ap, ◌∙◌, arith, Option, Some, None}
 use Rattle.std.specs.Prelude.{nat_eq, filter, slice_get, slice_index}
 use Rattle.std.proofs.lemmas.Bool.{and_from, and_parts, eq-eqb, eqb-true, false_from_ne_true}
-use Rattle.std.proofs.lemmas.Option.{get_or_from_slice_get, same_Some, slice_get_within}
+use Rattle.std.proofs.lemmas.Option.{get_or_from_slice_get, same_Some, slice_get-get_or, slice_get_within}
 use Rattle.hsr_frame_groups.specs.Frames.{CaughtFields, frame_time, past_of}
 use Rattle.hsr_previous.specs.declared.previous.Keyed.{Keyed}
-use Rattle.hsr_previous.specs.Previous.{AreInTime, ArePrevious, IsLatestBefore, IsPreviousOf}
-use Rattle.hsr_sightings.specs.Again.{AreCarriedKeys, AreCounted, PointBack}
+use Rattle.hsr_previous.specs.Previous.{AreInTime, IsLatestBefore, IsPreviousOf}
+use Rattle.hsr_sightings.specs.Again.{carried_keyed, count_by_previous}
 use Rattle.hsr_sightings.specs.Copies.{carried_before}
 use Rattle.hsr_sightings.specs.Frames.{copies_of, frame_of}
 use Rattle.hsr_sightings.specs.Keys.{carried_key}
-use Rattle.hsr_sightings.specs.Read.{AreRead, TellsEach}
+use Rattle.hsr_sightings.specs.Read.{AreRead}
 use Rattle.hsr_sightings.specs.Ring.{is_in}
-use Rattle.hsr_sightings.proofs.Indexes.{keys_rise, none_there, past_more, past_same, previous_at, same_first, same_frame, within_frame}
+use Rattle.hsr_sightings.proofs.Indexes.{keys_from, keys_from_at, keys_from_long, keys_rise, none_there, past_more, past_same, same_first, same_frame, within_frame}
 
 -- how many copies before a place a direction has of a frame
 abbrev pub count_in : List CaughtFields → ℕ → ℕ → ℕ → ℕ
@@ -72,6 +72,20 @@ not_such copies firsts read k i b c here there other = false_from_ne_true _ (λ 
 
 -- ---- by the previous one
 
+-- of each copy its moment, and its frame and its direction
+pub record AreCarriedKeys (copies : List CaughtFields) (firsts : List ℕ) (keys : List Keyed) : Type 0 where
+  pub each : (i : ℕ) (c : CaughtFields) → slice_get copies i ≡ Some c → slice_get keys i ≡ Some (carried_keyed (slice_index firsts i) c)
+  pub long : length keys ≡ length copies
+
+abbrev pub carried_keys : List CaughtFields → List ℕ → List Keyed
+carried_keys copies firsts = keys_from (λ i c. carried_keyed (slice_index firsts i) c) 0 copies
+
+pub are_keys : (copies : List CaughtFields) (firsts : List ℕ) → AreCarriedKeys copies firsts (carried_keys copies firsts)
+are_keys copies firsts = record {
+  each = λ i c here. keys_from_at (λ k x. carried_keyed (slice_index firsts k) x) 0 copies i c here ∙ ap (λ k. Some (carried_keyed (slice_index firsts k) c)) (omega arith);
+  long = keys_from_long (λ k x. carried_keyed (slice_index firsts k) x) 0 copies;
+}
+
 -- what the key of a copy is
 key_at : (copies : List CaughtFields) (firsts : List ℕ) (keys : List Keyed) → AreCarriedKeys copies firsts keys → (k : ℕ) (b : CaughtFields) → slice_get copies k ≡ Some b
     → slice_get keys k ≡ Some (record { at = b.at; key = carried_key (slice_index firsts k) b.direction })
@@ -115,69 +129,34 @@ carried_some copies firsts keys read are i j b c there here latest =
     none k a from until at_k = not_such copies firsts read k i a c at_k there
         (λ same. latest.others k (omega (arith, from)) (omega (arith, until, latest.below)) _ (key_at copies firsts keys are k a at_k) same)
 
--- ---- all of them
+-- ---- one more copy
 
-missing : {X : Type 0} (xs : List X) (i : ℕ) → i < length xs → slice_get xs i ≡ None → ⊥
-missing [] i below none = omega (arith, below)
-missing (x ∷ xs) zero below none = absurd cc
-missing (x ∷ xs) (suc i) below none = missing xs i (omega (arith, below)) none
-
-carried_to : (copies : List CaughtFields) (firsts : List ℕ) (keys : List Keyed) (previous : List (Option ℕ)) (counts : List ℕ) → AreRead copies firsts → AreCarriedKeys copies firsts keys
-    → ArePrevious frame_time keys previous → AreCounted previous counts → (n i : ℕ) → i < n → (c : CaughtFields) → slice_get copies i ≡ Some c
-    → slice_get counts i ≡ Some (carried_before (past_of copies i) c)
-carried_to copies firsts keys previous counts read are found counted zero i below c there = absurd (omega (arith, below))
-carried_to copies firsts keys previous counts read are found counted (suc n) i below c there =
-    by_found (λ j before b here. carried_to copies firsts keys previous counts read are found counted n j (omega (arith, below, before)) b here) (slice_get previous i) refl
+-- it is counted by the previous one, if those so far are
+pub carried_next : (copies : List CaughtFields) (firsts : List ℕ) (keys : List Keyed) (counts : List ℕ) (i : ℕ) (c : CaughtFields) (found : Option ℕ) → AreRead copies firsts
+    → AreCarriedKeys copies firsts keys → slice_get copies i ≡ Some c → IsPreviousOf frame_time keys i (carried_keyed (slice_index firsts i) c) found
+    → ((k : ℕ) (b : CaughtFields) → k < i → slice_get copies k ≡ Some b → slice_get counts k ≡ Some (carried_before (past_of copies k) b))
+    → count_by_previous counts found ≡ carried_before (past_of copies i) c
+carried_next copies firsts keys counts i c None read are there old each = sym (carried_none copies firsts keys read are i c there old)
+carried_next copies firsts keys counts i c (Some j) read are there latest each = by_copy (slice_get copies j) refl
   where
     inside : i < length copies
     inside = slice_get_within copies i c there
 
-    is_previous : (o : Option ℕ) → slice_get previous i ≡ Some o → IsPreviousOf frame_time keys i (record { at = c.at; key = carried_key (slice_index firsts i) c.direction }) o
-    is_previous o is =
-        subst (IsPreviousOf frame_time keys i (record { at = c.at; key = carried_key (slice_index firsts i) c.direction })) (get_or_from_slice_get previous i o None is)
-        (previous_at copies keys previous i _ frame_time found (key_at copies firsts keys are i c there))
+    by_copy : (o : Option CaughtFields) → slice_get copies j ≡ o → count_by_previous counts (Some j) ≡ carried_before (past_of copies i) c
+    by_copy None none = absurd (none_there copies j (omega (arith, latest.below, inside)) none)
+    by_copy (Some b) here =
+        ap (λ n. n + 1) (get_or_from_slice_get counts j (carried_before (past_of copies j) b) 0 (each j b latest.below here))
+        ∙ sym (carried_some copies firsts keys read are i j b c there here latest)
 
-    by_latest : (j : ℕ) → ((b : CaughtFields) → slice_get copies j ≡ Some b → slice_get counts j ≡ Some (carried_before (past_of copies j) b)) → slice_get previous i ≡ Some (Some j)
-        → (o : Option CaughtFields) → slice_get copies j ≡ o → slice_get counts i ≡ Some (carried_before (past_of copies i) c)
-    by_latest j earlier is None none = absurd (none_there copies j (let latest = is_previous (Some j) is in omega (arith, latest.below, inside)) none)
-    by_latest j earlier is (Some b) here =
-        let latest = is_previous (Some j) is in
-        let own : slice_get counts j ≡ Some (carried_before (past_of copies j) b) = earlier b here in
-        let value : slice_index counts j ≡ carried_before (past_of copies j) b = get_or_from_slice_get counts j (carried_before (past_of copies j) b) 0 own in
-        counted.each i (Some j) is ∙ ap Some (ap (λ n. n + 1) value ∙ sym (carried_some copies firsts keys read are i j b c there here latest))
-
-    by_found : ((j : ℕ) → j < i → (b : CaughtFields) → slice_get copies j ≡ Some b → slice_get counts j ≡ Some (carried_before (past_of copies j) b)) → (o : Option (Option ℕ))
-        → slice_get previous i ≡ o → slice_get counts i ≡ Some (carried_before (past_of copies i) c)
-    by_found earlier None none = absurd (missing previous i (omega (arith, inside, found.long, are.long)) none)
-    by_found earlier (Some None) is = counted.each i None is ∙ ap Some (sym (carried_none copies firsts keys read are i c there (is_previous None is)))
-    by_found earlier (Some (Some j)) is = let latest = is_previous (Some j) is in by_latest j (earlier j latest.below) is (slice_get copies j) refl
-
-pub all_carried : (copies : List CaughtFields) (firsts : List ℕ) (keys : List Keyed) (previous : List (Option ℕ)) (counts : List ℕ) → AreRead copies firsts → AreCarriedKeys copies firsts keys
-    → ArePrevious frame_time keys previous → AreCounted previous counts → TellsEach carried_before copies counts
-all_carried copies firsts keys previous counts read are found counted = record {
-  each = λ i c there. carried_to copies firsts keys previous counts read are found counted (i + 1) i (omega arith) c there;
-  long = counted.long ∙ found.long ∙ are.long;
-}
+-- no count is greater than its place
+pub count_small : (keys : List Keyed) (counts : List ℕ) (i : ℕ) (own : Keyed) (found : Option ℕ) → IsPreviousOf frame_time keys i own found → length counts ≡ i
+    → ((k n : ℕ) → slice_get counts k ≡ Some n → n ≤ k) → count_by_previous counts found ≤ i
+count_small keys counts i own None is long small = omega arith
+count_small keys counts i own (Some j) is long small =
+    let before : j < i = is.below in
+    let le : slice_index counts j ≤ j = small j (slice_index counts j) (slice_get-get_or counts j 0 (omega (arith, before, long))) in
+    omega (arith, before, le)
 
 -- keys in the order of time
 pub keys_in_time : (copies : List CaughtFields) (firsts : List ℕ) (keys : List Keyed) → AreRead copies firsts → AreCarriedKeys copies firsts keys → AreInTime keys
 keys_in_time copies firsts keys read are = keys_rise copies firsts keys read are.long (λ i c here. (_, are.each i c here, refl))
-
--- each previous one stands in front
-pub point_back : (copies : List CaughtFields) (firsts : List ℕ) (keys : List Keyed) (previous : List (Option ℕ)) → AreRead copies firsts → AreCarriedKeys copies firsts keys
-    → ArePrevious frame_time keys previous → PointBack previous
-point_back copies firsts keys previous read are found i j is = by_copy (slice_get copies i) refl
-  where
-    fits : i < length previous
-    fits = slice_get_within previous i (Some j) is
-
-    inside : i < length copies
-    inside = omega (arith, fits, found.long, are.long)
-
-    by_copy : (o : Option CaughtFields) → slice_get copies i ≡ o → j < i
-    by_copy None none = absurd (none_there copies i inside none)
-    by_copy (Some c) there =
-        let latest : IsPreviousOf frame_time keys i (record { at = c.at; key = carried_key (slice_index firsts i) c.direction }) (Some j)
-        = subst (IsPreviousOf frame_time keys i (record { at = c.at; key = carried_key (slice_index firsts i) c.direction })) (get_or_from_slice_get previous i (Some j) None is)
-        (previous_at copies keys previous i _ frame_time found (key_at copies firsts keys are i c there)) in
-        latest.below

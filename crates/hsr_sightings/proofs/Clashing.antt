@@ -1,14 +1,14 @@
 -- Copies that say something else than the latest copy of their source and number.
-use Rattle.std.proofs.Common.{◌≡◌, ℕ, ◌+◌, ◌-◌, ◌<◌, ◌≤◌, Bool, true, false, cond, ◌&&◌, List, ◌∷◌, length, ◌⊎◌, inl, inr, refl, sym, ap, subst, ◌∙◌, arith, Option, Some, None}
-use Rattle.std.specs.Prelude.{nat_eq, nat_lt, find, not, slice_get, slice_index, slice_index_or}
+use Rattle.std.proofs.Common.{◌≡◌, ℕ, ◌+◌, ◌-◌, ◌<◌, ◌≤◌, Bool, true, false, cond, ◌&&◌, List, ◌∷◌, length, map, ◌⊎◌, inl, inr, refl, sym, ap, subst, ◌∙◌, arith, Option, Some, None}
+use Rattle.std.specs.Prelude.{nat_eq, nat_lt, find, not, slice_get, slice_index}
 use Rattle.std.proofs.lemmas.Bool.{and_left, both_ways, eq-eqb, eqb-true, false_from_ne_true, le-ltb}
 use Rattle.std.proofs.lemmas.List.{length-map}
 use Rattle.std.proofs.lemmas.Option.{same_Some, slice_get_within}
 use Rattle.hsr_frame_copies.specs.Alike.{says_same}
 use Rattle.hsr_frame_groups.specs.Frames.{CaughtFields, first_copy, frame_time, key_of, past_of}
 use Rattle.hsr_previous.specs.declared.previous.Keyed.{Keyed}
-use Rattle.hsr_previous.specs.Previous.{AreInTime, ArePrevious, IsPreviousOf}
-use Rattle.hsr_sightings.specs.Clash.{AreCopyKeys, clash_by, copy_found, copy_key, says_other_at}
+use Rattle.hsr_previous.specs.Previous.{AreInTime, IsPreviousOf}
+use Rattle.hsr_sightings.specs.Clash.{clash_by, copy_found, copy_key, says_other_at}
 use Rattle.hsr_sightings.specs.Copies.{differs, is_clash}
 use Rattle.hsr_sightings.specs.Frames.{begins, frame_of}
 use Rattle.hsr_sightings.specs.Read.{AreRead}
@@ -43,7 +43,10 @@ found_stands copies key i b le is = picked_stands (find (with_key key)) (λ t. w
 
 -- ---- keys
 
-key_at : (copies : List CaughtFields) (keys : List Keyed) → AreCopyKeys copies keys → (k : ℕ) (b : CaughtFields) → slice_get copies k ≡ Some b → slice_get keys k ≡ Some (copy_key b)
+abbrev pub AreCopyKeys : List CaughtFields → List Keyed → Type 0
+AreCopyKeys copies keys = keys ≡ map copy_key copies
+
+pub key_at : (copies : List CaughtFields) (keys : List Keyed) → AreCopyKeys copies keys → (k : ℕ) (b : CaughtFields) → slice_get copies k ≡ Some b → slice_get keys k ≡ Some (copy_key b)
 key_at copies keys are k b here = keyed_at copy_key copies keys are k b here
 
 -- ---- begins
@@ -101,15 +104,12 @@ found_is copies keys are i c here (Some j) latest = by_copy (slice_get copies j)
         (λ k a from until at_k. false_from_ne_true _ (λ such. latest.others k (omega (arith, from)) (omega (arith, until, latest.below)) (copy_key a) (key_at copies keys are k a at_k) (eqb-true (key_of a) (key_of c) such)))
         ∙ find_more copies (key_of c) j b there ∙ ap (λ t. cond t (Some b) (find (with_key (key_of c)) (past_of copies j))) (eq-eqb (key_of b) (key_of c) same))
 
-pub clash_at : (copies : List CaughtFields) (firsts : List ℕ) (keys : List Keyed) (previous : List (Option ℕ)) → AreRead copies firsts → AreCopyKeys copies keys → ArePrevious frame_time keys previous
-    → (i : ℕ) (c : CaughtFields) → slice_get copies i ≡ Some c → clash_by copies (slice_index firsts i) (slice_index_or previous i None) i ≡ is_clash (past_of copies i) c
-clash_at copies firsts keys previous read are found i c here =
-    let inside : i < length copies = slice_get_within copies i c here in
-    let long : length keys ≡ length copies = ap length are ∙ length-map copies copy_key in
-    let is = found.each i (omega (arith, inside, found.long, long)) (copy_key c) (key_at copies keys are i c here) in
-    ap (λ o. nat_eq (slice_index firsts i) i && says_other_at (copy_found copies (slice_index_or previous i None)) o) here
-    ∙ ap (λ t. t && says_other_at (copy_found copies (slice_index_or previous i None)) (Some c)) (sym (begins_by copies firsts read i c here))
-    ∙ ap (λ t. begins (past_of copies i) c && t) (sym (found_is copies keys are i c here (slice_index_or previous i None) is))
+pub clash_at : (copies : List CaughtFields) (firsts : List ℕ) (keys : List Keyed) (found : Option ℕ) → AreRead copies firsts → AreCopyKeys copies keys
+    → (i : ℕ) (c : CaughtFields) → slice_get copies i ≡ Some c → IsPreviousOf frame_time keys i (copy_key c) found → clash_by copies (slice_index firsts i) found i ≡ is_clash (past_of copies i) c
+clash_at copies firsts keys found read are i c here is =
+    ap (λ o. nat_eq (slice_index firsts i) i && says_other_at (copy_found copies found) o) here
+    ∙ ap (λ t. t && says_other_at (copy_found copies found) (Some c)) (sym (begins_by copies firsts read i c here))
+    ∙ ap (λ t. begins (past_of copies i) c && t) (sym (found_is copies keys are i c here found is))
 
 -- keys in the order of time
 pub keys_in_time : (copies : List CaughtFields) (firsts : List ℕ) (keys : List Keyed) → AreRead copies firsts → AreCopyKeys copies keys → AreInTime keys

@@ -1,11 +1,10 @@
 -- Lists that tell of each copy, and how many there are before one, one copy after the other.
-use Rattle.std.proofs.Common.{◌≡◌, ℕ, zero, suc, ◌+◌, ◌<◌, ◌≤◌, List, [], ◌∷◌, ◌++◌, get_or, length, ◌⊎◌, inl, inr, refl, sym, ap, subst, ◌∙◌, arith, Option, Some, None}
-use Rattle.std.specs.Prelude.{slice_get, slice_index}
+use Rattle.std.proofs.Common.{◌≡◌, ℕ, zero, suc, ◌+◌, ◌<◌, ◌≤◌, List, [], ◌∷◌, ◌++◌, get_or, length, ◌⊎◌, inl, inr, refl, sym, ap, subst, ◌∙◌, arith, Some}
+use Rattle.std.specs.Prelude.{slice_get}
 use Rattle.std.proofs.lemmas.Bool.{cases_lt}
-use Rattle.std.proofs.lemmas.List.{get_or_append_left, length_push}
-use Rattle.std.proofs.lemmas.Option.{get_or_from_slice_get, same_Some, slice_get-get_or, slice_get_within}
+use Rattle.std.proofs.lemmas.List.{length_push}
+use Rattle.std.proofs.lemmas.Option.{get_or_from_slice_get, same_Some, slice_get_within}
 use Rattle.hsr_frame_groups.specs.Frames.{CaughtFields}
-use Rattle.hsr_sightings.specs.Again.{PointBack, count_by_previous}
 
 -- ---- lists that grow by one
 
@@ -43,36 +42,9 @@ read_is tell copies i x own here is d there = is ∙ ap tell (same_Some x d (sym
 pub long_more : {X : Type 0} (told new : List X) (i : ℕ) (own : X) → length told ≡ i → new ≡ told ++ own ∷ [] → length new ≡ i + 1
 long_more told new i own long is = ap length is ∙ length_push told own ∙ ap (λ n. n + 1) long
 
--- ---- counted by the previous one
-
-by_previous_left : (counts : List ℕ) (own k : ℕ) (found : Option ℕ) → k ≤ length counts → ((j : ℕ) → found ≡ Some j → j < k) → count_by_previous (counts ++ own ∷ []) found ≡ count_by_previous counts found
-by_previous_left counts own k None le back = refl
-by_previous_left counts own k (Some j) le back = let before = back j refl in ap (λ n. n + 1) (get_or_append_left counts (own ∷ []) 0 j (omega (arith, before, le)))
-
-pub counted_more : (previous : List (Option ℕ)) (counts new : List ℕ) (i own : ℕ) (found : Option ℕ) → PointBack previous → length counts ≡ i → slice_get previous i ≡ Some found → new ≡ counts ++ own ∷ []
-    → own ≡ count_by_previous counts found → ((k : ℕ) (o : Option ℕ) → k < i → slice_get previous k ≡ Some o → slice_get counts k ≡ Some (count_by_previous counts o))
-    → (k : ℕ) (o : Option ℕ) → k < i + 1 → slice_get previous k ≡ Some o → slice_get new k ≡ Some (count_by_previous new o)
-counted_more previous counts new i own found back long here is own_is each k o below at_k = subst (λ l. slice_get l k ≡ Some (count_by_previous l o)) (sym is) (by_case (cases_lt k i))
-  where
-    still : count_by_previous (counts ++ own ∷ []) o ≡ count_by_previous counts o
-    still = by_previous_left counts own k o (omega (arith, below, long)) (λ j o_is. back k j (at_k ∙ ap Some o_is))
-
-    by_case : (k < i) ⊎ (i ≤ k) → slice_get (counts ++ own ∷ []) k ≡ Some (count_by_previous (counts ++ own ∷ []) o)
-    by_case (inl before) = slice_get_left counts (own ∷ []) k (omega (arith, before, long)) ∙ each k o before at_k ∙ ap Some (sym still)
-    by_case (inr past) =
-        let place : k ≡ i = omega (arith, past, below) in
-        let same : found ≡ o = same_Some _ _ (sym here ∙ ap (slice_get previous) (sym place) ∙ at_k) in
-        ap (slice_get (counts ++ own ∷ [])) place ∙ slice_get_end counts own i long ∙ ap Some (own_is ∙ ap (count_by_previous counts) same ∙ sym still)
+-- ---- counts
 
 -- no count is greater than its place
-pub count_small : (previous : List (Option ℕ)) (counts : List ℕ) (i : ℕ) (found : Option ℕ) → PointBack previous → length counts ≡ i → slice_get previous i ≡ Some found
-    → ((k n : ℕ) → slice_get counts k ≡ Some n → n ≤ k) → count_by_previous counts found ≤ i
-count_small previous counts i None back long here small = omega arith
-count_small previous counts i (Some j) back long here small =
-    let before : j < i = back i j here in
-    let le : slice_index counts j ≤ j = small j (slice_index counts j) (slice_get-get_or counts j 0 (omega (arith, before, long))) in
-    omega (arith, before, le)
-
 pub small_more : (counts new : List ℕ) (i own : ℕ) → length counts ≡ i → new ≡ counts ++ own ∷ [] → own ≤ i → ((k n : ℕ) → slice_get counts k ≡ Some n → n ≤ k) → (k n : ℕ) → slice_get new k ≡ Some n → n ≤ k
 small_more counts new i own long is le small k n at_k = by_case (cases_lt k i)
   where

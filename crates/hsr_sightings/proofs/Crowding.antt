@@ -1,18 +1,17 @@
 -- How many frames began at a point in the last 400 ms, one copy after the other.
-use Rattle.std.proofs.Common.{◌≡◌, ℕ, zero, suc, ◌+◌, ◌-◌, ◌<◌, ◌≤◌, max, Bool, true, false, cond, ◌&&◌, List, [], ◌∷◌, ◌++◌, length, reverse, get_or, ◌⊎◌, inl, inr, refl, sym, ap, subst, ◌∙◌, arith, Option, Some, None}
+use Rattle.std.proofs.Common.{◌≡◌, ℕ, zero, suc, ◌+◌, ◌-◌, ◌<◌, ◌≤◌, max, Bool, true, false, cond, ◌&&◌, List, [], ◌∷◌, ◌++◌, length, map, reverse, get_or, ◌⊎◌, inl, inr, refl, sym, ap, subst, ◌∙◌, arith, Option, Some, None}
 use Rattle.std.specs.List.{AllZip}
-use Rattle.std.specs.Prelude.{nat_lt, filter, slice_get}
+use Rattle.std.specs.Prelude.{nat_lt, filter, option_map, slice_get, slice_index}
 use Rattle.std.proofs.lemmas.Bool.{and_parts, cases_lt, cond-false, cond-true, eq-eqb, eqb-true, le-ltb, lt-ltb}
-use Rattle.std.proofs.lemmas.List.{append-nil, length_push, reverse-append, reverse-reverse, take_all}
+use Rattle.std.proofs.lemmas.List.{append-nil, length_push, map-append, reverse-append, reverse-reverse, take_all}
 use Rattle.std.proofs.lemmas.List.Elements.{filter-append}
 use Rattle.std.proofs.lemmas.List.Sums.{length-filter, sum_by_push}
-use Rattle.std.proofs.lemmas.Option.{same_Some, slice_get-get_or, slice_get_within}
+use Rattle.std.proofs.lemmas.Option.{same_Some, slice_get-get_or, slice_get-map, slice_get_within}
 use Rattle.hsr_frame_groups.specs.Frames.{AreInTime, CaughtFields, past_of}
 use Rattle.hsr_sightings.specs.Copies.{begins_there, begun_at, crowd, first_crowded, first_of_past, is_recent}
-use Rattle.hsr_sightings.specs.Crowding.{IsCrowding, IsKeptOf, IsRecentFrom}
+use Rattle.hsr_sightings.specs.Crowding.{Begun, IsCrowding, IsKeptOf, IsRecentFrom, begun_by, moment_in}
 use Rattle.hsr_sightings.specs.Read.{IsCrowd, IsFull, most_in}
 use Rattle.hsr_sightings.specs.Ring.{Ring, forget_time, is_at, point_of}
-use Rattle.hsr_sightings.specs.declared.late.Begun.{Begun}
 use Rattle.hsr_sightings.specs.declared.late.Crowd.{Crowd}
 use Rattle.hsr_sightings.proofs.Gathering.{slice_get_push}
 use Rattle.hsr_sightings.proofs.Counting.{slice_get_end}
@@ -315,6 +314,36 @@ still_at ring copies point i begins things from most inside nothing begins_is is
     by_copy : (o : Option CaughtFields) → slice_get copies i ≡ o → IsCrowding ring copies point (i + 1) things from most
     by_copy None none = absurd (none_there copies i inside none)
     by_copy (Some c) here = still_crowding ring copies point i c things from most here (sym (begins_is c here) ∙ nothing) is
+
+-- ---- what is kept is told by copies
+
+pub kept_at : (copies : List CaughtFields) (numbers : List ℕ) (k n : ℕ) (b : Begun) → slice_get numbers k ≡ Some n → slice_get (map (begun_by copies) numbers) k ≡ Some b
+    → b ≡ begun_by copies n
+kept_at copies numbers k n b here at_k = same_Some b (begun_by copies n) (sym at_k ∙ slice_get-map (begun_by copies) numbers k ∙ ap (option_map (begun_by copies)) here)
+
+pub kept_copy : (copies : List CaughtFields) (numbers : List ℕ) (k : ℕ) (b : Begun) → slice_get (map (begun_by copies) numbers) k ≡ Some b → slice_get numbers k ≡ Some b.copy
+kept_copy copies numbers k b at_k = by_number (slice_get numbers k) refl (sym (slice_get-map (begun_by copies) numbers k) ∙ at_k)
+  where
+    by_number : (o : Option ℕ) → slice_get numbers k ≡ o → option_map (begun_by copies) (slice_get numbers k) ≡ Some b → slice_get numbers k ≡ Some b.copy
+    by_number None none is = absurd (let clash : option_map (begun_by copies) None ≡ Some b = ap (option_map (begun_by copies)) (sym none) ∙ is in cc)
+    by_number (Some n) here is = here ∙ ap (λ (x : Begun). Some x.copy) (same_Some (begun_by copies n) b (ap (option_map (begun_by copies)) (sym here) ∙ is))
+
+pub kept_push : (copies : List CaughtFields) (numbers new : List ℕ) (i : ℕ) → new ≡ numbers ++ i ∷ [] → map (begun_by copies) new ≡ map (begun_by copies) numbers ++ begun_by copies i ∷ []
+kept_push copies numbers new i is = ap (map (begun_by copies)) is ∙ map-append (begun_by copies) numbers (i ∷ [])
+
+-- one more that is old
+pub old_more : (copies : List CaughtFields) (numbers : List ℕ) (from k at moment : ℕ) → k < length numbers → moment ≡ moment_in (slice_get copies (slice_index numbers k)) → forget_time ≤ at - moment
+    → ((j : ℕ) (b : Begun) → from ≤ j → j < k → slice_get (map (begun_by copies) numbers) j ≡ Some b → b.at + forget_time ≤ at)
+    → (j : ℕ) (b : Begun) → from ≤ j → j < k + 1 → slice_get (map (begun_by copies) numbers) j ≡ Some b → b.at + forget_time ≤ at
+old_more copies numbers from k at moment inside is far old j b le below at_j = by_case (cases_lt j k)
+  where
+    by_case : (j < k) ⊎ (k ≤ j) → b.at + forget_time ≤ at
+    by_case (inl before) = old j b le before at_j
+    by_case (inr past) =
+        let place : j ≡ k = omega (arith, past, below) in
+        let own = kept_at copies numbers k (slice_index numbers k) b (slice_get-get_or numbers k 0 inside) (ap (slice_get (map (begun_by copies) numbers)) (sym place) ∙ at_j) in
+        let same : b.at ≡ moment = ap (λ (x : Begun). x.at) own ∙ sym is in
+        omega (arith, same, far)
 
 -- ---- the whole
 

@@ -1,23 +1,23 @@
 -- Sightings, one copy after the other.
 use Rattle.std.proofs.Common.{◌≡◌, ℕ, zero, suc, ◌+◌, ◌-◌, ◌<◌, ◌≤◌, ◌^◌, min, Bool, true, false, cond, ◌&&◌, ◌||◌, List, [], ◌∷◌, ◌++◌, length, reverse, set, take, get_or, ◌⊎◌, inl, inr, refl, sym, ap, subst, ◌∙◌, arith, Option, Some, None}
 use Rattle.std.specs.List.{list_any}
-use Rattle.std.specs.Prelude.{nat_eq, nat_lt, filter, option_map, slice_get, slice_index, slice_index_or}
+use Rattle.std.specs.Prelude.{nat_eq, nat_lt, filter, option_map, slice_get, slice_index}
 use Rattle.std.proofs.lemmas.Bool.{and_from, and_left, and_parts, and_right, both_ways, cases_eq, cases_lt, cases_order, cond-false, cond-true, eq-eqb, eqb-true, false_from_ne_true, lt-ltb, ne_eqb, or_left}
 use Rattle.std.proofs.lemmas.List.{length-reverse, length-set, length-take, length_push, take_all}
 use Rattle.std.proofs.lemmas.Option.{get_or_from_slice_get, same_Some, slice_get-get_or, slice_get_within}
 use Rattle.hsr_frame_groups.specs.Frames.{CaughtFields, first_copy, frame_time, past_of}
 use Rattle.hsr_previous.specs.declared.previous.Keyed.{Keyed}
-use Rattle.hsr_previous.specs.Previous.{AreInTime, ArePrevious, IsPreviousOf}
+use Rattle.hsr_previous.specs.Previous.{AreInTime, IsPreviousOf}
 use Rattle.hsr_sightings.specs.Copies.{begins_there, begun_at, carried_before}
 use Rattle.hsr_sightings.specs.Finding.{AreFound, IsPreviousSighting}
 use Rattle.hsr_sightings.specs.Frames.{copies_of, frame_of}
-use Rattle.hsr_sightings.specs.Read.{AreRead, AreSightingKeys, AreSightings, HasPlaces, IsBegun, IsSameSighting, IsSighting, IsSightingOf, Rise, first_by}
+use Rattle.hsr_sightings.specs.Read.{AreRead, AreSightings, HasPlaces, IsBegun, IsSameSighting, IsSighting, IsSightingOf, Rise, first_by}
 use Rattle.hsr_sightings.specs.Ring.{Ring, goes, is_at, is_in, point_of, way_of}
-use Rattle.hsr_sightings.specs.Seen.{begun, first_of, joined, key_by}
+use Rattle.hsr_sightings.specs.Seen.{begun, first_of, joined, key_by, sighting_keyed}
 use Rattle.hsr_sightings.specs.Sightings.{first_seen, is_more, sighting}
 use Rattle.hsr_sightings.specs.Fields.{Sighting}
 use Rattle.hsr_sightings.proofs.Counting.{slice_get_end, slice_get_left}
-use Rattle.hsr_sightings.proofs.Indexes.{first_there, keys_rise, none_there, past_more, past_same, previous_at, same_first, same_frame, within_frame}
+use Rattle.hsr_sightings.proofs.Indexes.{first_there, keys_from, keys_from_at, keys_from_long, keys_rise, none_there, past_more, past_same, same_first, same_frame, within_frame}
 
 -- ---- the copies of a frame that pass a test
 
@@ -549,6 +549,20 @@ all_found ring copies all of_copy begun_old n all_read found = record {
 
 -- ---- keys
 
+-- of each copy its moment, and its frame and its point
+pub record AreSightingKeys (ring : Ring) (copies : List CaughtFields) (firsts : List ℕ) (keys : List Keyed) : Type 0 where
+  pub each : (i : ℕ) (c : CaughtFields) → slice_get copies i ≡ Some c → slice_get keys i ≡ Some (sighting_keyed ring (slice_index firsts i) c)
+  pub long : length keys ≡ length copies
+
+abbrev pub sighting_keys : Ring → List CaughtFields → List ℕ → List Keyed
+sighting_keys ring copies firsts = keys_from (λ i c. sighting_keyed ring (slice_index firsts i) c) 0 copies
+
+pub are_keys : (ring : Ring) (copies : List CaughtFields) (firsts : List ℕ) → AreSightingKeys ring copies firsts (sighting_keys ring copies firsts)
+are_keys ring copies firsts = record {
+  each = λ i c here. keys_from_at (λ k x. sighting_keyed ring (slice_index firsts k) x) 0 copies i c here ∙ ap (λ k. Some (sighting_keyed ring (slice_index firsts k) c)) (omega arith);
+  long = keys_from_long (λ k x. sighting_keyed ring (slice_index firsts k) x) 0 copies;
+}
+
 key_parts : (f p g q : ℕ) → p < 64 → q < 64 → key_by f p ≡ key_by g q → (f ≡ g) × (p ≡ q)
 key_parts f p g q small few is = (omega (arith, small, few, is), omega (arith, small, few, is))
 
@@ -559,31 +573,24 @@ same_by_key ring copies firsts read places k i b c here there same =
     let parts = key_parts (slice_index firsts k) (point_of ring b) (slice_index firsts i) (point_of ring c) (places b.direction) (places c.direction) same in
     record { frame = same_frame copies firsts read k i b c here there parts.0; point = parts.1 }
 
-pub previous_is : (ring : Ring) (copies : List CaughtFields) (firsts : List ℕ) (keys : List Keyed) (previous : List (Option ℕ)) (i : ℕ) → AreRead copies firsts → HasPlaces ring
-    → AreSightingKeys ring copies firsts keys → ArePrevious frame_time keys previous → i < length copies → IsPreviousSighting ring copies i (slice_index_or previous i None)
-previous_is ring copies firsts keys previous i read places are found inside = by_copy (slice_get copies i) refl
-  where
-    by_found : (c : CaughtFields) → slice_get copies i ≡ Some c → (o : Option ℕ) → IsPreviousOf frame_time keys i (record { at = c.at; key = key_by (slice_index firsts i) (point_of ring c) }) o
-        → IsPreviousSighting ring copies i o
-    by_found c here None old = λ k b d before at_k at_i alike.
-        let own : c ≡ d = same_Some c d (sym here ∙ at_i) in
-        let frame = alike.frame ∙ ap (frame_of (past_of copies i)) (sym own) in
-        let point = alike.point ∙ ap (point_of ring) (sym own) in
-        let first = same_first copies firsts read k i b c at_k here frame in
-        let far = old k _ before (are.each k b at_k) (ap (λ f. key_by f (point_of ring b)) first ∙ ap (key_by (slice_index firsts i)) point) in
-        let near = within_frame copies firsts read k i b c before at_k here first in
-        omega (arith, far, near)
-    by_found c here (Some j) latest = (
-      latest.below,
-      λ b d at_j at_i.
-          let own : c ≡ d = same_Some c d (sym here ∙ at_i) in
-          let thing = same_Some _ _ (sym (are.each j b at_j) ∙ latest.has.there) in
-          subst (IsSameSighting ring copies j i b) own (same_by_key ring copies firsts read places j i b c at_j here (ap (λ (t : Keyed). t.key) thing ∙ latest.has.same)),
-    )
-
-    by_copy : (o : Option CaughtFields) → slice_get copies i ≡ o → IsPreviousSighting ring copies i (slice_index_or previous i None)
-    by_copy None none = absurd (none_there copies i inside none)
-    by_copy (Some c) here = by_found c here (slice_index_or previous i None) (previous_at copies keys previous i _ frame_time found (are.each i c here))
+pub previous_is : (ring : Ring) (copies : List CaughtFields) (firsts : List ℕ) (keys : List Keyed) (i : ℕ) (c : CaughtFields) (found : Option ℕ) → AreRead copies firsts → HasPlaces ring
+    → AreSightingKeys ring copies firsts keys → slice_get copies i ≡ Some c → IsPreviousOf frame_time keys i (sighting_keyed ring (slice_index firsts i) c) found
+    → IsPreviousSighting ring copies i found
+previous_is ring copies firsts keys i c None read places are here old = λ k b d before at_k at_i alike.
+    let own : c ≡ d = same_Some c d (sym here ∙ at_i) in
+    let frame = alike.frame ∙ ap (frame_of (past_of copies i)) (sym own) in
+    let point = alike.point ∙ ap (point_of ring) (sym own) in
+    let first = same_first copies firsts read k i b c at_k here frame in
+    let far = old k _ before (are.each k b at_k) (ap (λ f. key_by f (point_of ring b)) first ∙ ap (key_by (slice_index firsts i)) point) in
+    let near = within_frame copies firsts read k i b c before at_k here first in
+    omega (arith, far, near)
+previous_is ring copies firsts keys i c (Some j) read places are here latest = (
+  latest.below,
+  λ b d at_j at_i.
+      let own : c ≡ d = same_Some c d (sym here ∙ at_i) in
+      let thing = same_Some _ _ (sym (are.each j b at_j) ∙ latest.has.there) in
+      subst (IsSameSighting ring copies j i b) own (same_by_key ring copies firsts read places j i b c at_j here (ap (λ (t : Keyed). t.key) thing ∙ latest.has.same)),
+)
 
 pub keys_in_time : (ring : Ring) (copies : List CaughtFields) (firsts : List ℕ) (keys : List Keyed) → AreRead copies firsts → AreSightingKeys ring copies firsts keys → AreInTime keys
 keys_in_time ring copies firsts keys read are = keys_rise copies firsts keys read are.long (λ i c here. (_, are.each i c here, refl))

@@ -1,13 +1,15 @@
 -- From indexes to pasts: what the place of the copy that began a frame says of those before a copy.
 use Rattle.std.proofs.Common.{◌≡◌, ℕ, zero, suc, ◌+◌, ◌-◌, ◌<◌, ◌≤◌, Bool, true, false, cond, List, [], ◌∷◌, length, reverse, take, get_or, ◌⊎◌, inl, inr, map, refl, sym, ap, subst, ◌∙◌, arith, Option, Some, None}
-use Rattle.std.specs.Prelude.{nat_eq, nat_lt, option_map, slice_get, slice_index, slice_index_or}
+use Rattle.std.specs.Prelude.{nat_eq, nat_lt, option_map, slice_get, slice_index}
 use Rattle.std.proofs.lemmas.Bool.{and_parts, ltb-true}
 use Rattle.std.proofs.lemmas.List.{reverse-append, take_more}
 use Rattle.std.proofs.lemmas.Option.{get_or_from_slice_get, none-some, same_Some, slice_get-get_or, slice_get-map, slice_get_within}
 use Rattle.hsr_frame_copies.specs.Alike.{says_same}
 use Rattle.hsr_frame_groups.specs.Frames.{CaughtFields, first_copy, frame_time, joined_to, joins, key_of, latest_frame, past_of}
 use Rattle.hsr_previous.specs.declared.previous.Keyed.{Keyed}
-use Rattle.hsr_previous.specs.Previous.{AreInTime, ArePrevious, IsPreviousOf}
+use Rattle.hsr_previous.specs.declared.previous.Previous.{Previous}
+use Rattle.hsr_previous.specs.Previous.{AreInTime}
+use Rattle.hsr_previous.specs.Ready.{HaveCome, latest_of}
 use Rattle.hsr_sightings.specs.Frames.{frame_of}
 use Rattle.hsr_sightings.specs.Read.{AreRead, HaveOwnNumbers}
 
@@ -242,9 +244,21 @@ pub keyed_at : (tell : CaughtFields → Keyed) (copies : List CaughtFields) (key
     → slice_get keys k ≡ Some (tell b)
 keyed_at tell copies keys are k b here = ap (λ l. slice_get l k) are ∙ slice_get-map tell copies k ∙ ap (option_map tell) here
 
--- what was found for the copy at a place
-pub previous_at : (copies : List CaughtFields) (keys : List Keyed) (previous : List (Option ℕ)) (i : ℕ) (own : Keyed) (horizon : ℕ) → ArePrevious horizon keys previous → slice_get keys i ≡ Some own
-    → IsPreviousOf horizon keys i own (slice_index_or previous i None)
-previous_at copies keys previous i own horizon found here =
-    let below : i < length keys = slice_get_within keys i own here in
-    found.each i (omega (arith, below, found.long)) own here
+-- keys that are told of each copy and its index
+abbrev pub keys_from : (ℕ → CaughtFields → Keyed) → ℕ → List CaughtFields → List Keyed
+keys_from tell i [] = []
+keys_from tell i (c ∷ copies) = tell i c ∷ keys_from tell (i + 1) copies
+
+pub keys_from_at : (tell : ℕ → CaughtFields → Keyed) (n : ℕ) (copies : List CaughtFields) (k : ℕ) (c : CaughtFields) → slice_get copies k ≡ Some c
+    → slice_get (keys_from tell n copies) k ≡ Some (tell (n + k) c)
+keys_from_at tell n [] k c here = absurd cc
+keys_from_at tell n (x ∷ copies) zero c here = ap (λ y. Some (tell n y)) (same_Some x c here) ∙ ap (λ m. Some (tell m c)) (omega arith)
+keys_from_at tell n (x ∷ copies) (suc k) c here = keys_from_at tell (n + 1) copies k c here ∙ ap (λ m. Some (tell m c)) (omega arith)
+
+pub keys_from_long : (tell : ℕ → CaughtFields → Keyed) (n : ℕ) (copies : List CaughtFields) → length (keys_from tell n copies) ≡ length copies
+keys_from_long tell n [] = refl
+keys_from_long tell n (x ∷ copies) = ap suc (keys_from_long tell (n + 1) copies)
+
+-- the things before the next one came no later
+pub no_later : (keys : List Keyed) (i : ℕ) (own : Keyed) (previous : Previous) → HaveCome frame_time keys i previous → slice_get keys i ≡ Some own → latest_of previous ≤ own.at
+no_later keys i own previous come here = come.1.next own here

@@ -1,25 +1,28 @@
 -- The greatest numbers so far, by the indexes of their copies.
-use Rattle.std.proofs.Common.{◌≡◌, ℕ, zero, suc, ◌+◌, ◌-◌, ◌<◌, ◌≤◌, Bool, true, false, cond, ◌&&◌, List, [], ◌∷◌, ◌++◌, append_assoc, drop, length, option_to_list, ◌⊎◌, inl, inr, refl, sym, ap, subst, ◌∙◌, arith, Option, Some, None}
+use Rattle.std.proofs.Common.{◌≡◌, ℕ, zero, suc, ◌+◌, ◌-◌, ◌<◌, ◌≤◌, Bool, true, false, cond, ◌&&◌, List, [], ◌∷◌, ◌++◌, append_assoc, drop, length, map, option_to_list, ◌⊎◌, inl, inr, refl, sym, ap, subst, ◌∙◌, arith, Option, Some, None}
 use Rattle.std.specs.Prelude.{nat_eq, nat_le, not, option_map, slice_get, slice_index, slice_index_or}
 use Rattle.std.proofs.lemmas.Bool.{and_left, and_right, cases_lt, cond-false, eq-eqb, eqb-true, le-leb, le-ltb, ne_eqb}
 use Rattle.std.proofs.lemmas.List.{drop_more, get_or_append_left, length-map, length_push}
 use Rattle.std.proofs.lemmas.Option.{get_or_from_slice_get, same_Some, slice_get_within}
 use Rattle.hsr_frame_groups.specs.Frames.{CaughtFields, frame_time, past_of}
 use Rattle.hsr_previous.specs.declared.previous.Keyed.{Keyed}
-use Rattle.hsr_previous.specs.Previous.{AreInTime, ArePrevious, IsPreviousOf}
+use Rattle.hsr_previous.specs.Previous.{AreInTime, IsPreviousOf}
 use Rattle.hsr_sightings.specs.Clash.{copy_found}
 use Rattle.hsr_sightings.specs.Copies.{carried_before, is_again, is_behind, is_passed, is_recent, top_before, top_in, top_with}
 use Rattle.hsr_sightings.specs.Keys.{beside_key}
-use Rattle.hsr_sightings.specs.Passed.{AreBesideKeys, AreTops, IsForgotten, TellsTop, beside_keyed, is_passed_at, is_passed_by, overtaken_by, overtaken_in, top_after, top_by}
+use Rattle.hsr_sightings.specs.Passed.{AreTops, IsForgotten, TellsTop, beside_keyed, is_passed_at, is_passed_by, overtaken_by, overtaken_in, top_after, top_by}
 use Rattle.hsr_sightings.specs.Read.{AreRead, TellsEach, overtaken_at, overtaken_from}
 use Rattle.hsr_sightings.specs.Ring.{forget_time}
 use Rattle.hsr_sightings.specs.declared.overtaken.Overtaken.{Overtaken}
 use Rattle.hsr_sightings.proofs.Counting.{get_or_end}
-use Rattle.hsr_sightings.proofs.Indexes.{keyed_at, keys_rise, none_there, not_before, past_more, past_same, picked_stands, previous_at}
+use Rattle.hsr_sightings.proofs.Indexes.{keyed_at, keys_rise, none_there, not_before, past_more, past_same, picked_stands}
 
 -- ---- keys
 
-key_at : (copies : List CaughtFields) (keys : List Keyed) → AreBesideKeys copies keys → (k : ℕ) (b : CaughtFields) → slice_get copies k ≡ Some b → slice_get keys k ≡ Some (beside_keyed b)
+abbrev pub AreBesideKeys : List CaughtFields → List Keyed → Type 0
+AreBesideKeys copies keys = keys ≡ map beside_keyed copies
+
+pub key_at : (copies : List CaughtFields) (keys : List Keyed) → AreBesideKeys copies keys → (k : ℕ) (b : CaughtFields) → slice_get copies k ≡ Some b → slice_get keys k ≡ Some (beside_keyed b)
 key_at copies keys are k b here = keyed_at beside_keyed copies keys are k b here
 
 pub keys_long : (copies : List CaughtFields) (keys : List Keyed) → AreBesideKeys copies keys → length keys ≡ length copies
@@ -177,17 +180,10 @@ overtaken_more copies i c old new all own here own_is is told =
     ∙ ap (λ x. x ∷ drop (i + 1) copies) (get_or_from_slice_get copies i c c here))) ∙ told
 
 -- the copy at an index, by what is told of the previous one
-pub overtaken_step : (copies : List CaughtFields) (firsts : List ℕ) (keys : List Keyed) (previous tops : List (Option ℕ)) (carried : List ℕ) (i : ℕ) (before : Option ℕ) (own : Option Overtaken)
-    (old new all : List Overtaken) → AreRead copies firsts → AreBesideKeys copies keys → ArePrevious frame_time keys previous → AreTops copies (length copies) tops → TellsEach carried_before copies carried
-    → i < length copies → before ≡ top_by tops (slice_index_or previous i None) → own ≡ overtaken_in copies (slice_index carried i) before i → new ≡ old ++ option_to_list own
+pub overtaken_step : (copies : List CaughtFields) (carried : List ℕ) (i : ℕ) (c : CaughtFields) (top : Option ℕ) (own : Option Overtaken) (old new all : List Overtaken)
+    → TellsEach carried_before copies carried → slice_get copies i ≡ Some c → TellsTop copies c.at (top_before (past_of copies i) c) top
+    → own ≡ overtaken_in copies (slice_index carried i) top i → new ≡ old ++ option_to_list own
     → old ++ overtaken_from copies i (drop i copies) ≡ all → new ++ overtaken_from copies (i + 1) (drop (i + 1) copies) ≡ all
-overtaken_step copies firsts keys previous tops carried i before own old new all read are found tops_are counts inside before_is own_is new_is told = by_copy (slice_get copies i) refl
-  where
-    by_copy : (o : Option CaughtFields) → slice_get copies i ≡ o → new ++ overtaken_from copies (i + 1) (drop (i + 1) copies) ≡ all
-    by_copy None none = absurd (none_there copies i inside none)
-    by_copy (Some c) here =
-        let top = top_told copies firsts keys tops (length copies) i read are tops_are (omega (arith, inside)) c here (slice_index_or previous i None)
-        (previous_at copies keys previous i (beside_keyed c) frame_time found (key_at copies keys are i c here)) in
-        let count : slice_index carried i ≡ carried_before (past_of copies i) c = get_or_from_slice_get carried i (carried_before (past_of copies i) c) 0 (counts.each i c here) in
-        overtaken_more copies i c old new all own here
-        (own_is ∙ overtaken_is copies i (slice_index carried i) c before here count (subst (TellsTop copies c.at (top_before (past_of copies i) c)) (sym before_is) top)) new_is told
+overtaken_step copies carried i c top own old new all counts here top_is own_is new_is told =
+    let count : slice_index carried i ≡ carried_before (past_of copies i) c = get_or_from_slice_get carried i (carried_before (past_of copies i) c) 0 (counts.each i c here) in
+    overtaken_more copies i c old new all own here (own_is ∙ overtaken_is copies i (slice_index carried i) c top here count top_is) new_is told

@@ -1,16 +1,13 @@
 -- Copies that say something else than the latest copy of their source and number.
-use Rattle.std.specs.Prelude.{ℕ, ◌≡◌, ◌==◌, ◌&&◌, not, Bool, false, List, map, slice_get, Option, Some, None}
+use Rattle.std.specs.Prelude.{ℕ, ◌==◌, ◌&&◌, not, Bool, false, List, slice_get, Option, Some, None}
 use Rattle.hsr_frame_copies.specs.Alike.{says_same}
 use Rattle.hsr_frame_groups.specs.Frames.{CaughtFields, key_of}
 use Rattle.hsr_previous.specs.declared.previous.Keyed.{Keyed}
 use Rattle.hsr_sightings.specs.Copies.{is_recent}
 
--- of each copy its moment, and its source and its number
+-- the moment of a copy, and its source and its number
 abbrev pub copy_key : CaughtFields → Keyed
 copy_key c = record { at = c.at; key = key_of c }
-
-abbrev pub AreCopyKeys : List CaughtFields → List Keyed → Type 0
-AreCopyKeys copies keys = keys ≡ map copy_key copies
 
 -- an earlier copy says something else, less than 400 ms before
 abbrev pub says_other : CaughtFields → CaughtFields → Bool

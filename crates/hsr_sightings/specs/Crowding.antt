@@ -1,12 +1,24 @@
 -- How many frames began at a point in the last 400 ms, one copy after the other.
-use Rattle.std.specs.Prelude.{ℕ, ◌≡◌, ◌+◌, ◌<◌, ◌≤◌, Bool, List, length, filter, reverse, slice_get, Some}
+use Rattle.std.specs.Prelude.{ℕ, ◌≡◌, ◌+◌, ◌<◌, ◌≤◌, Bool, List, length, filter, reverse, slice_get, Option, Some, None}
 use Rattle.std.specs.List.{AllZip}
 use Rattle.hsr_frame_groups.specs.Frames.{CaughtFields, past_of}
 use Rattle.hsr_sightings.specs.Copies.{begun_at, crowd}
 use Rattle.hsr_sightings.specs.Read.{IsFull, most_in}
 use Rattle.hsr_sightings.specs.Ring.{Ring, forget_time}
-use Rattle.hsr_sightings.specs.declared.late.Begun.{Begun}
 use Rattle.hsr_sightings.specs.declared.late.Crowd.{Crowd}
+
+-- a frame that began at a point: when, and the index of its copy
+pub record Begun : Type 0 where
+  pub at : ℕ
+  pub copy : ℕ
+
+abbrev pub moment_in : Option CaughtFields → ℕ
+moment_in None = 0
+moment_in (Some c) = c.at
+
+-- by the index of its copy
+abbrev pub begun_by : List CaughtFields → ℕ → Begun
+begun_by copies copy = record { at = moment_in (slice_get copies copy); copy = copy }
 
 -- the first thing from an index on that came less than 400 ms before a moment
 pub record IsRecentFrom (things : List Begun) (from at found : ℕ) : Type 0 where

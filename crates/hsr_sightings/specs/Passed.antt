@@ -1,5 +1,5 @@
 -- Copies that were overtaken, by the indexes of the greatest numbers so far.
-use Rattle.std.specs.Prelude.{ℕ, ◌≡◌, ◌+◌, ◌≤◌, ◌<◌, ◌==◌, ◌&&◌, not, Bool, false, if◌then◌else◌, List, length, map, slice_get, slice_index_or, Option, Some, None}
+use Rattle.std.specs.Prelude.{ℕ, ◌≡◌, ◌+◌, ◌≤◌, ◌<◌, ◌==◌, ◌&&◌, not, Bool, false, if◌then◌else◌, List, length, slice_get, slice_index_or, Option, Some, None}
 use Rattle.hsr_frame_groups.specs.Frames.{CaughtFields, past_of}
 use Rattle.hsr_previous.specs.declared.previous.Keyed.{Keyed}
 use Rattle.hsr_sightings.specs.Copies.{is_passed, top_in}
@@ -8,12 +8,9 @@ use Rattle.hsr_sightings.specs.Clash.{copy_found}
 use Rattle.hsr_sightings.specs.Ring.{forget_time}
 use Rattle.hsr_sightings.specs.declared.overtaken.Overtaken.{Overtaken}
 
--- of each copy its moment, and its direction, priority and source
+-- the moment of a copy, and its direction, priority and source
 abbrev pub beside_keyed : CaughtFields → Keyed
 beside_keyed c = record { at = c.at; key = beside_key c }
-
-abbrev pub AreBesideKeys : List CaughtFields → List Keyed → Type 0
-AreBesideKeys copies keys = keys ≡ map beside_keyed copies
 
 -- the greatest so far at the previous one
 abbrev pub top_by : List (Option ℕ) → Option ℕ → Option ℕ

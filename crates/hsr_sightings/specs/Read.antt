@@ -6,11 +6,9 @@
 --     IsMost           the most that is told of a copy at a point
 use Rattle.std.specs.Prelude.{ℕ, ◌≡◌, ◌+◌, ◌<◌, ◌^◌, true, if◌then◌else◌, List, [], ◌∷◌, ◌++◌, length, option_to_list, filter, reverse, slice_get, slice_index, Option, Some, None, option_map}
 use Rattle.hsr_frame_groups.specs.Frames.{AreFirst, AreInTime, CaughtFields, first_copy, past_of}
-use Rattle.hsr_previous.specs.declared.previous.Keyed.{Keyed}
 use Rattle.hsr_sightings.specs.Copies.{begins_there, begun_at, crowd, first_crowded, is_overtaken, most_of, needed, top_before}
 use Rattle.hsr_sightings.specs.Frames.{frame_of}
 use Rattle.hsr_sightings.specs.Ring.{Ring, goes, is_at, point_of}
-use Rattle.hsr_sightings.specs.Seen.{key_by}
 use Rattle.hsr_sightings.specs.Sightings.{first_seen, is_more, sighting}
 use Rattle.hsr_sightings.specs.declared.late.Crowd.{Crowd}
 use Rattle.hsr_sightings.specs.declared.overtaken.Overtaken.{Overtaken}
@@ -91,11 +89,6 @@ pub record IsSightingOf (ring : Ring) (copies : List CaughtFields) (all : List S
   pub copy : CaughtFields
   pub there : slice_get copies seen.first ≡ Some copy
   pub same : IsSameSighting ring copies seen.first j copy c
-
--- of each copy its moment, and its frame and its point
-pub record AreSightingKeys (ring : Ring) (copies : List CaughtFields) (firsts : List ℕ) (keys : List Keyed) : Type 0 where
-  pub each : (i : ℕ) (c : CaughtFields) → slice_get copies i ≡ Some c → slice_get keys i ≡ Some (record { at = c.at; key = key_by (slice_index firsts i) (point_of ring c) })
-  pub long : length keys ≡ length copies
 
 -- sightings stand in the order of the copies that began them
 abbrev pub Rise : List Sighting → Type 0

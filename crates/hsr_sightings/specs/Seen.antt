@@ -1,7 +1,8 @@
 -- What is kept of a frame as a point saw it, and what follows from that.
 use Rattle.std.specs.Prelude.{ℕ, ◌+◌, ◌-◌, ◌*◌, ◌==◌, ◌&&◌, ◌||◌, not, nat_lt, Bool, false, if◌then◌else◌, Option, Some, None, is_some}
 use Rattle.hsr_frame_groups.specs.Frames.{CaughtFields}
-use Rattle.hsr_sightings.specs.Ring.{Ring, forget_time, way_of}
+use Rattle.hsr_previous.specs.declared.previous.Keyed.{Keyed}
+use Rattle.hsr_sightings.specs.Ring.{Ring, forget_time, point_of, way_of}
 use Rattle.hsr_sightings.specs.declared.sighting.Fate.{Fate}
 use Rattle.hsr_sightings.specs.declared.sighting.Fate.TheVariants.{Twice, Once, More, Open}
 use Rattle.hsr_sightings.specs.Fields.{Sighting}
@@ -9,6 +10,10 @@ use Rattle.hsr_sightings.specs.Fields.{Sighting}
 -- a frame at a point, as one number: there are 64 points at most
 abbrev pub key_by : ℕ → ℕ → ℕ
 key_by first point = first * 64 + point
+
+-- the moment of a copy, and its frame and its point
+abbrev pub sighting_keyed : Ring → ℕ → CaughtFields → Keyed
+sighting_keyed ring first c = record { at = c.at; key = key_by first (point_of ring c) }
 
 abbrev pub came_both : Sighting → Bool
 came_both seen = is_some seen.by_0 && is_some seen.by_1

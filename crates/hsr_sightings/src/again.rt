@@ -1,13 +1,13 @@
 //! How often a direction carried a frame.
-ghost use Rattle.std.specs.Prelude.{◌≡◌, ◌<◌, ◌^◌, length, IfOk};
-ghost use Rattle.hsr_sightings.specs.Again.{AreCarriedKeys, AreCounted, IsCountedBy, PointBack};
+ghost use Rattle.std.specs.Prelude.{◌≡◌, ◌<◌, IfOk};
+ghost use Rattle.hsr_sightings.specs.Again.{IsCountedBy, carried_keyed};
 ghost use Rattle.hsr_sightings.specs.Copies.{carried_before};
 ghost use Rattle.hsr_sightings.specs.Keys.{carried_key};
 ghost use Rattle.hsr_sightings.specs.Read.{AreRead, TellsEach};
 
 use hsr_frame::NoMemory;
 use hsr_frame_groups::{Caught, FRAME_TIME};
-use hsr_previous::{Keyed, previous_of};
+use hsr_previous::{Keyed, Previous};
 use std::alloc::Global;
 
 /// How many directions there may be, as numbers.
@@ -21,20 +21,15 @@ fn key_of(first: u32, direction: usize) -> u64
     u64::from(first) * DIRECTIONS + direction as u64
 }
 
-/// Of each copy its moment, and its frame and its direction as one number.
-fn keys_of(alloc: Global, copies: &[Caught<'_>], firsts: &[u32]) -> Result<Vec<Keyed>, NoMemory>
-    requires { AreRead copies.now firsts.now }
-    ensures { IfOk result (λ keys. AreCarriedKeys copies.now firsts.now keys.items) }
+/// The moment of a copy, and its frame and its direction as one number.
+fn keyed(caught: &Caught<'_>, first: u32) -> Keyed
+    requires { caught.now.direction < 512 }
+    ensures { result ≡ carried_keyed first caught.now }
 {
-    let mut keys = Vec::with_capacity(alloc, copies.len())?;
-    for i in 0..copies.len() {
-        let caught = &copies[i];
-        keys.push(Keyed {
-            at: caught.at(),
-            key: key_of(firsts[i], caught.direction()),
-        })?;
+    Keyed {
+        at: caught.at(),
+        key: key_of(first, caught.direction()),
     }
-    Ok(keys)
 }
 
 /// One more than of the previous thing; none where there is none.
@@ -51,21 +46,7 @@ fn count_by(counts: &[u32], found: Option<u32>) -> u32
     }
 }
 
-/// Of each thing, how many there are before it: one more than before the previous one.
-fn counted(alloc: Global, previous: &[Option<u32>]) -> Result<Vec<u32>, NoMemory>
-    requires few { length previous.now < 2 ^ 32 }
-    requires back { PointBack previous.now }
-    ensures { IfOk result (λ counts. AreCounted previous.now counts.items) }
-{
-    let mut counts: Vec<u32> = Vec::new(alloc);
-    for i in 0..previous.len() {
-        let count = count_by(counts.as_slice(), previous[i]);
-        counts.push(count)?;
-    }
-    Ok(counts)
-}
-
-/// Of each copy, how often its direction carried its frame before.
+/// Of each copy, how often its direction carried its frame before: once more than the previous copy of both.
 pub fn carried_of(
     alloc: Global,
     copies: &[Caught<'_>],
@@ -74,8 +55,12 @@ pub fn carried_of(
     requires { AreRead copies.now firsts.now }
     ensures { IfOk result (λ counts. TellsEach carried_before copies.now counts.items) }
 {
-    let keys = keys_of(alloc, copies, firsts)?;
-    let previous = previous_of(alloc, keys.as_slice(), FRAME_TIME)?;
-    let counts = counted(alloc, previous.as_slice())?;
+    let mut previous = Previous::new(alloc, FRAME_TIME);
+    let mut counts = Vec::with_capacity(alloc, copies.len())?;
+    for i in 0..copies.len() {
+        let found = previous.next(alloc, keyed(&copies[i], firsts[i]), i as u32)?;
+        let count = count_by(counts.as_slice(), found);
+        counts.push(count)?;
+    }
     Ok(counts)
 }

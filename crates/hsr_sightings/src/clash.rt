@@ -3,7 +3,7 @@
 ghost use Rattle.std.specs.Prelude.{◌≡◌, ◌<◌, length, IfOk};
 ghost use Rattle.hsr_frame_groups.specs.Frames.{key_of};
 ghost use Rattle.hsr_sightings.specs.Copies.{is_clash};
-ghost use Rattle.hsr_sightings.specs.Clash.{AreCopyKeys, clash_by, says_other};
+ghost use Rattle.hsr_sightings.specs.Clash.{clash_by, copy_key, says_other};
 ghost use Rattle.hsr_sightings.specs.Frames.{begins};
 ghost use Rattle.hsr_sightings.specs.Read.{AreRead, TellsEach};
 
@@ -11,22 +11,17 @@ use crate::ring::FORGET_TIME;
 use hsr_frame::NoMemory;
 use hsr_frame_copies::says_same;
 use hsr_frame_groups::{Caught, FRAME_TIME, key_of};
-use hsr_previous::{Keyed, previous_of};
+use hsr_previous::{Keyed, Previous};
 use std::alloc::Global;
 
-/// Of each copy its moment, and its source and its number as one number.
-fn keys_of(alloc: Global, copies: &[Caught<'_>]) -> Result<Vec<Keyed>, NoMemory>
-    ensures { IfOk result (λ keys. AreCopyKeys copies.now keys.items) }
+/// The moment of a copy, and its source and its number as one number.
+fn keyed(caught: &Caught<'_>) -> Keyed
+    ensures { result ≡ copy_key caught.now }
 {
-    let mut keys = Vec::with_capacity(alloc, copies.len())?;
-    for i in 0..copies.len() {
-        let caught = &copies[i];
-        keys.push(Keyed {
-            at: caught.at(),
-            key: key_of(caught),
-        })?;
+    Keyed {
+        at: caught.at(),
+        key: key_of(caught),
     }
-    Ok(keys)
 }
 
 /// Whether a copy says something else than an earlier one, less than 400 ms before.
@@ -64,11 +59,11 @@ pub fn clashes_of(
     requires { AreRead copies.now firsts.now }
     ensures { IfOk result (λ clashes. TellsEach is_clash copies.now clashes.items) }
 {
-    let keys = keys_of(alloc, copies)?;
-    let previous = previous_of(alloc, keys.as_slice(), FRAME_TIME)?;
-    let mut clashes = Vec::new(alloc);
+    let mut previous = Previous::new(alloc, FRAME_TIME);
+    let mut clashes = Vec::with_capacity(alloc, copies.len())?;
     for i in 0..copies.len() {
-        clashes.push(clash_by(copies, firsts[i], previous[i], i))?;
+        let found = previous.next(alloc, keyed(&copies[i]), i as u32)?;
+        clashes.push(clash_by(copies, firsts[i], found, i))?;
     }
     Ok(clashes)
 }

@@ -1,12 +1,11 @@
 //! Copies of frames that nodes have forgotten, and how many frames a table has to hold.
-ghost use Rattle.std.specs.Prelude.{◌≡◌, ◌+◌, ◌-◌, ◌<◌, ◌≤◌, ◌^◌, ◌&&◌, ℕ, length, max, nat_le, slice_get, slice_index, IfOk, OnOk, Some};
+ghost use Rattle.std.specs.Prelude.{◌≡◌, ◌+◌, ◌-◌, ◌<◌, ◌≤◌, ◌^◌, ◌&&◌, ℕ, length, map, max, nat_le, slice_get, slice_index, IfOk, OnOk, Some};
 ghost use Rattle.hsr_frame_groups.specs.Frames.{AreInTime, CaughtFields, past_of};
 ghost use Rattle.hsr_sightings.specs.Copies.{begins_there, is_late};
-ghost use Rattle.hsr_sightings.specs.Crowding.{IsCrowding, IsRecentFrom};
+ghost use Rattle.hsr_sightings.specs.Crowding.{IsCrowding, IsRecentFrom, begun_by, moment_in};
 ghost use Rattle.hsr_sightings.specs.Demand.{at_least, begun_with, needed_with, one_more};
 ghost use Rattle.hsr_sightings.specs.Read.{AreCrowds, AreNeeded, AreSightings, HaveOwnNumbers, IsCrowd, TellsEach};
 ghost use Rattle.hsr_sightings.specs.Ring.{forget_time, is_at};
-ghost use Rattle.hsr_sightings.specs.declared.late.Begun as the_begun;
 ghost use Rattle.hsr_sightings.specs.Fields as the_sighting;
 
 use crate::ring::{FORGET_TIME, Ring};
@@ -133,20 +132,23 @@ pub struct Crowd {
     pub first: u32,
 }
 
-/// A frame that began at a point: when, and the index of its copy.
-#[derive(Clone, Copy, Debug, PartialEq, Eq)]
-struct Begun {
-    at: u64,
-    copy: u32,
+/// The moment of a copy, by its index.
+fn moment_at(copies: &[Caught<'_>], copy: u32) -> u64
+    ensures { result ≡ moment_in (slice_get copies.now copy) }
+{
+    match copies.get(copy as usize) {
+        None => 0,
+        Some(caught) => caught.at(),
+    }
 }
 
-/// The first one from an index on that began less than 400 ms before a moment, by its index.
-fn recent_from(things: &[Begun], from: usize, at: u64) -> usize
+/// The first frame from an index on that began less than 400 ms before a moment, by its index; frames are told by their copies.
+fn recent_from(copies: &[Caught<'_>], things: &[u32], from: usize, at: u64) -> usize
     requires { from ≤ length things.now }
-    ensures { IsRecentFrom things.now from at result }
+    ensures { IsRecentFrom (map (begun_by copies.now) things.now) from at result }
 {
     for k in from..things.len() {
-        if at.saturating_sub(things[k].at) < FORGET_TIME {
+        if at.saturating_sub(moment_at(copies, things[k])) < FORGET_TIME {
             return k;
         }
     }
@@ -154,27 +156,27 @@ fn recent_from(things: &[Begun], from: usize, at: u64) -> usize
 }
 
 /// The greater crowd: that so far, or that of the frames from an index on.
-fn greater(most: Crowd, things: &[Begun], from: usize) -> Crowd
+fn greater(most: Crowd, things: &[u32], from: usize) -> Crowd
     requires { from < length things.now }
     ensures frames { result.frames ≡ max (length things.now - from) most.frames }
     ensures kept { length things.now - from ≤ most.frames → result ≡ most }
-    ensures first { most.frames < length things.now - from → (b : the_begun.Begun) → slice_get things.now from ≡ Some b → result.first ≡ b.copy }
+    ensures first { most.frames < length things.now - from → (k : ℕ) → slice_get things.now from ≡ Some k → result.first ≡ k }
 {
     let frames = things.len() - from;
     if frames > most.frames {
         Crowd {
             frames,
-            first: things[from].copy,
+            first: things[from],
         }
     } else {
         most
     }
 }
 
-/// The frames that began at a point so far, in the order of time: those in front of a place are forgotten.
+/// The frames that began at a point so far, in the order of time, by their copies: those in front of a place are forgotten.
 #[derive(Drop)]
 struct Crowding {
-    things: Vec<Begun>,
+    things: Vec<u32>,
     from: usize,
     most: Crowd,
 }
@@ -189,17 +191,16 @@ fn put_begun(
     requires time { AreInTime copies.now }
     requires below { i < length copies.now }
     requires within { crowding.old.from ≤ length crowding.old.things.items }
-    ensures { OnOk result ((ring : Rattle.hsr_sightings.specs.Ring.Ring) (point : ℕ) → IsCrowding ring copies.now point i crowding.old.things.items crowding.old.from crowding.old.most
+    ensures { OnOk result ((ring : Rattle.hsr_sightings.specs.Ring.Ring) (point : ℕ) → IsCrowding ring copies.now point i (map (begun_by copies.now) crowding.old.things.items) crowding.old.from crowding.old.most
         → ((c : CaughtFields) → slice_get copies.now i ≡ Some c → begins ≡ (is_at ring point c && begins_there ring (past_of copies.now i) c))
-        → IsCrowding ring copies.now point (i + 1) crowding.new.things.items crowding.new.from crowding.new.most) }
+        → IsCrowding ring copies.now point (i + 1) (map (begun_by copies.now) crowding.new.things.items) crowding.new.from crowding.new.most) }
 {
     if !begins {
         return Ok(());
     }
-    let caught = &copies[i as usize];
-    let at = caught.at();
-    crowding.things.push(Begun { at, copy: i })?;
-    crowding.from = recent_from(crowding.things.as_slice(), crowding.from, at);
+    let at = copies[i as usize].at();
+    crowding.things.push(i)?;
+    crowding.from = recent_from(copies, crowding.things.as_slice(), crowding.from, at);
     crowding.most = greater(crowding.most, crowding.things.as_slice(), crowding.from);
     Ok(())
 }

@@ -1,16 +1,14 @@
 //! Copies behind a greater number of their source and priority, on their direction.
 ghost use Rattle.std.specs.Prelude.{◌≡◌, ◌<◌, ◌++◌, length, map, option_to_list, IfOk, OnOk};
-ghost use Rattle.hsr_previous.specs.Previous.{ArePrevious};
-ghost use Rattle.hsr_frame_groups.specs.Frames.{frame_time};
 ghost use Rattle.hsr_sightings.specs.Copies.{carried_before, is_behind, is_passed};
 ghost use Rattle.hsr_sightings.specs.Keys.{beside_key, priority_of};
-ghost use Rattle.hsr_sightings.specs.Passed.{AreBesideKeys, AreTops, beside_keyed, is_passed_at, overtaken_in, top_after, top_by};
+ghost use Rattle.hsr_sightings.specs.Passed.{beside_keyed, is_passed_at, overtaken_in, top_after, top_by};
 ghost use Rattle.hsr_sightings.specs.Read.{AreOvertaken, AreRead, TellsEach};
 
 use crate::ring::FORGET_TIME;
 use hsr_frame::NoMemory;
 use hsr_frame_groups::{Caught, FRAME_TIME};
-use hsr_previous::{Keyed, previous_of};
+use hsr_previous::{Keyed, Previous};
 use std::alloc::Global;
 
 /// A copy that was overtaken, by its index, and the number that it is behind.
@@ -39,34 +37,15 @@ fn key_of(caught: &Caught<'_>) -> u64
     u64::from_be_bytes([a, b, c, d, e, f, 0, 0]) + place
 }
 
-/// Of each copy its moment, and its direction, priority and source as one number.
-fn keys_of(alloc: Global, copies: &[Caught<'_>], firsts: &[u32]) -> Result<Vec<Keyed>, NoMemory>
-    requires { AreRead copies.now firsts.now }
-    ensures { IfOk result (λ keys. AreBesideKeys copies.now keys.items) }
+/// The moment of a copy, and its direction, priority and source as one number.
+fn keyed(caught: &Caught<'_>) -> Keyed
+    requires { caught.now.direction < 320 }
+    ensures { result ≡ beside_keyed caught.now }
 {
-    let mut keys = Vec::with_capacity(alloc, copies.len())?;
-    for i in 0..copies.len() {
-        let caught = &copies[i];
-        keys.push(Keyed {
-            at: caught.at(),
-            key: key_of(caught),
-        })?;
+    Keyed {
+        at: caught.at(),
+        key: key_of(caught),
     }
-    Ok(keys)
-}
-
-/// Of each copy the previous one of its direction, priority and source. The keys go here: they take as much room as all that is told meanwhile.
-fn previous_beside(
-    alloc: Global,
-    copies: &[Caught<'_>],
-    firsts: &[u32],
-) -> Result<Vec<Option<u32>>, NoMemory>
-    requires { AreRead copies.now firsts.now }
-    ensures { IfOk result (λ previous. ArePrevious frame_time (map beside_keyed copies.now) previous.items) }
-{
-    let keys = keys_of(alloc, copies, firsts)?;
-    let previous = previous_of(alloc, keys.as_slice(), FRAME_TIME)?;
-    Ok(previous)
 }
 
 /// Whether a number is behind another one, by at most 4096.
@@ -120,28 +99,6 @@ fn top_after(copies: &[Caught<'_>], carried: u32, top: Option<u32>, i: u32) -> O
     }
 }
 
-/// Of each copy the greatest so far with it, by its index: of the first copies of frames on its direction, of its source and priority.
-/// None where it came 400 ms ago or more.
-fn tops_of(
-    alloc: Global,
-    copies: &[Caught<'_>],
-    firsts: &[u32],
-    carried: &[u32],
-    previous: &[Option<u32>],
-) -> Result<Vec<Option<u32>>, NoMemory>
-    requires read { AreRead copies.now firsts.now }
-    requires carried { TellsEach carried_before copies.now carried.now }
-    requires found { ArePrevious frame_time (map beside_keyed copies.now) previous.now }
-    ensures { IfOk result (λ tops. AreTops copies.now (length copies.now) tops.items) }
-{
-    let mut tops = Vec::new(alloc);
-    for i in 0..copies.len() {
-        let before = top_by(tops.as_slice(), previous[i]);
-        tops.push(top_after(copies, carried[i], before, i as u32))?;
-    }
-    Ok(tops)
-}
-
 /// What is told of the copy at an index, if it was overtaken.
 fn overtaken_in(copies: &[Caught<'_>], carried: u32, top: Option<u32>, i: u32) -> Option<Overtaken>
     requires { i < length copies.now }
@@ -185,16 +142,16 @@ pub fn overtaken_of(
     requires carried { TellsEach carried_before copies.now carried.now }
     ensures { IfOk result (λ overtaken. AreOvertaken copies.now overtaken.items) }
 {
-    let found = previous_beside(alloc, copies, firsts)?;
-    let previous = found.as_slice();
-    let tops = tops_of(alloc, copies, firsts, carried, previous)?;
+    let mut previous = Previous::new(alloc, FRAME_TIME);
+    // Of each copy the greatest so far with it: of the first copies of frames on its direction, of its source and priority.
+    let mut tops = Vec::with_capacity(alloc, copies.len())?;
     let mut overtaken = Vec::new(alloc);
     for i in 0..copies.len() {
-        let before = top_by(tops.as_slice(), previous[i]);
-        put_overtaken(
-            &mut overtaken,
-            overtaken_in(copies, carried[i], before, i as u32),
-        )?;
+        let found = previous.next(alloc, keyed(&copies[i]), i as u32)?;
+        let top = top_by(tops.as_slice(), found);
+        let own = overtaken_in(copies, carried[i], top, i as u32);
+        put_overtaken(&mut overtaken, own)?;
+        tops.push(top_after(copies, carried[i], top, i as u32))?;
     }
     Ok(overtaken)
 }

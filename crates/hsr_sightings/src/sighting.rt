@@ -1,19 +1,16 @@
 //! A frame as a point saw it, in the whole capture.
-ghost use Rattle.std.specs.Prelude.{◌≡◌, ◌+◌, ◌-◌, ◌<◌, ◌^◌, ◌++◌, ◌∷◌, [], if◌then◌else◌, List, length, min, None, slice_get, slice_index, slice_set, IfOk, OnOk, Some};
-ghost use Rattle.hsr_frame_groups.specs.Frames.{frame_time};
-ghost use Rattle.hsr_previous.specs.Previous.{ArePrevious};
-ghost use Rattle.hsr_previous.specs.declared.previous.Keyed.{Keyed};
+ghost use Rattle.std.specs.Prelude.{◌≡◌, ◌+◌, ◌-◌, ◌<◌, ◌^◌, ◌++◌, ◌∷◌, [], if◌then◌else◌, length, min, None, slice_get, slice_index, slice_set, IfOk, OnOk, Some};
 ghost use Rattle.hsr_sightings.specs.Copies.{carried_before};
 ghost use Rattle.hsr_sightings.specs.Finding.{AreFound, IsPreviousSighting};
-ghost use Rattle.hsr_sightings.specs.Read.{AreRead, AreSightingKeys, AreSightings, HasPlaces, HasWays, TellsEach};
+ghost use Rattle.hsr_sightings.specs.Read.{AreRead, AreSightings, HasPlaces, HasWays, TellsEach};
 ghost use Rattle.hsr_sightings.specs.Ring.{point_of, way_of};
-ghost use Rattle.hsr_sightings.specs.Seen.{begun, came_both, fate_of, is_edge, joined, key_by, skew_of, way_of_seen, with_copy};
+ghost use Rattle.hsr_sightings.specs.Seen.{begun, came_both, fate_of, is_edge, joined, key_by, sighting_keyed, skew_of, way_of_seen, with_copy};
 ghost use Rattle.hsr_sightings.specs.Fields.{Sighting};
 
 use crate::ring::{FORGET_TIME, Ring};
 use hsr_frame::NoMemory;
 use hsr_frame_groups::{Caught, FRAME_TIME};
-use hsr_previous::{Keyed, previous_of};
+use hsr_previous::{Keyed, Previous};
 use std::alloc::Global;
 use std::marker::Model;
 
@@ -226,26 +223,15 @@ fn key_of(first: u32, point: usize) -> u64
     u64::from(first) * POINTS + point as u64
 }
 
-/// Of each copy its moment, and its frame and its point as one number.
-fn keys_of(
-    alloc: Global,
-    ring: &Ring<'_>,
-    copies: &[Caught<'_>],
-    firsts: &[u32],
-) -> Result<Vec<Keyed>, NoMemory>
-    requires read { AreRead copies.now firsts.now }
-    requires places { HasPlaces ring.now }
-    ensures { IfOk result (λ keys. AreSightingKeys ring.now copies.now firsts.now keys.items) }
+/// The moment of a copy, and its frame and its point as one number.
+fn keyed(ring: &Ring<'_>, caught: &Caught<'_>, first: u32) -> Keyed
+    requires { HasPlaces ring.now }
+    ensures { result ≡ sighting_keyed ring.now first caught.now }
 {
-    let mut keys = Vec::with_capacity(alloc, copies.len())?;
-    for i in 0..copies.len() {
-        let caught = &copies[i];
-        keys.push(Keyed {
-            at: caught.at(),
-            key: key_of(firsts[i], ring.point_of(caught)),
-        })?;
+    Keyed {
+        at: caught.at(),
+        key: key_of(first, ring.point_of(caught)),
     }
-    Ok(keys)
 }
 
 /// A sighting that begins with a copy, by how often its direction carried its frame before.
@@ -380,22 +366,6 @@ fn put_copy(
     }
 }
 
-/// Of each copy the previous one of its frame at its point. The keys go here: they take a third of the room that is taken meanwhile.
-fn previous_seen(
-    alloc: Global,
-    ring: &Ring<'_>,
-    copies: &[Caught<'_>],
-    firsts: &[u32],
-) -> Result<Vec<Option<u32>>, NoMemory>
-    requires read { AreRead copies.now firsts.now }
-    requires places { HasPlaces ring.now }
-    ensures { IfOk result (λ previous. (keys : List Keyed) × AreSightingKeys ring.now copies.now firsts.now keys × ArePrevious frame_time keys previous.items) }
-{
-    let keys = keys_of(alloc, ring, copies, firsts)?;
-    let previous = previous_of(alloc, keys.as_slice(), FRAME_TIME)?;
-    Ok(previous)
-}
-
 /// Each frame at each point that saw it, by the frame and by how often its direction carried it before, of each copy.
 pub fn sightings_of(
     alloc: Global,
@@ -410,16 +380,16 @@ pub fn sightings_of(
     requires ways { HasWays ring.now }
     ensures { IfOk result (λ found. AreSightings ring.now copies.now found.all.items found.of_copy.items) }
 {
-    let previous = previous_seen(alloc, ring, copies, firsts)?;
-    // As much room is taken as is needed, so that the room of the keys, which went, is enough for it.
-    let many = previous.iter().filter(|found| found.is_none()).count();
+    let mut previous = Previous::new(alloc, FRAME_TIME);
+    // Room is taken for as many sightings as copies, at once, as it is used page by page.
     let mut found = Found {
-        all: Vec::with_capacity(alloc, many)?,
+        all: Vec::with_capacity(alloc, copies.len())?,
         of_copy: Vec::with_capacity(alloc, copies.len())?,
         begun: vec![in alloc; 0u32; POINTS as usize]?,
     };
     for i in 0..copies.len() {
-        put_copy(&mut found, ring, copies, firsts, carried, previous[i], i)?;
+        let own = previous.next(alloc, keyed(ring, &copies[i], firsts[i]), i as u32)?;
+        put_copy(&mut found, ring, copies, firsts, carried, own, i)?;
     }
     Ok(Sightings {
         all: found.all,

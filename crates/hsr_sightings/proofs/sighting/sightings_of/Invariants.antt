@@ -1,6 +1,12 @@
+use Rattle.hsr_frame_groups.specs.Frames.{frame_time}
+use Rattle.hsr_previous.specs.Ready.{HaveCome}
 use Rattle.hsr_sightings.specs.Finding.{AreFound}
+use Rattle.hsr_sightings.proofs.Gathering.{sighting_keys}
 use Rattle.hsr_sightings.proofs.sighting.sightings_of.Given as goal
 
--- the copies so far have their sightings
+-- the copies so far have come, and have their sightings
 abbrev pub invariant-loop-i : goal.invariant-loop-i
-invariant-loop-i l = AreFound l.ring l.copies l.i l.found.all.items l.found.of_copy.items l.found.begun.items
+invariant-loop-i l = record {
+  come : HaveCome frame_time (sighting_keys l.ring l.copies l.firsts) l.i l.previous;
+  found : AreFound l.ring l.copies l.i l.found.all.items l.found.of_copy.items l.found.begun.items;
+}
