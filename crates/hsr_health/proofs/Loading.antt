@@ -1,9 +1,9 @@
 -- Sums of packets in moving windows.
 use Rattle.std.proofs.Common.{◌≡◌, ℕ, zero, suc, ◌+◌, ◌-◌, ◌*◌, ◌<◌, ◌≤◌, ◌^◌, max, min, Bool, true, false, cond, List, [], ◌∷◌, ◌++◌, drop, length, map, take, get_or, ◌⊎◌, inl, inr, refl, sym, ap, subst, ◌∙◌, arith, Option, Some, None}
-use Rattle.std.specs.Prelude.{nat_eq, nat_lt, filter, is_some, option_map, slice_get, unwrap_or}
+use Rattle.std.specs.Prelude.{nat_eq, nat_lt, filter, is_some, option_map, slice_get, slice_index, unwrap_or}
 use Rattle.std.proofs.Math.Seq.{take-add}
 use Rattle.std.proofs.lemmas.Bool.{cases_lt, cond-false, cond-true, le-ltb, lt-ltb}
-use Rattle.std.proofs.lemmas.List.{drop_more, length_push, take_more}
+use Rattle.std.proofs.lemmas.List.{drop_more, length_push, map-append, take_more}
 use Rattle.std.proofs.lemmas.List.Sums.{sum_by-append, sum_by-cons, sum_by-take-le, sum_by_more}
 use Rattle.std.proofs.lemmas.Option.{get_or_from_slice_get, same_Some, slice_get-get_or, slice_get-map, slice_get_within}
 use Rattle.hsr_capture_reader.specs.Fields.{InterfaceFields, PacketFields}
@@ -11,7 +11,7 @@ use Rattle.hsr_taps.specs.Asked.{ChoiceFields}
 use Rattle.hsr_taps.specs.Came.{AreInOrder, AreTalliesIf, tally_if}
 use Rattle.hsr_taps.specs.Tallies.{AreLookedAt, is_at}
 use Rattle.hsr_taps.specs.declared.tally.Tally.{Tally}
-use Rattle.hsr_health.specs.Loads.{AreLoads, IsEndFrom, Rise, load_if, load_of, own_packets, peak_of, sum_from, weighed}
+use Rattle.hsr_health.specs.Loads.{AreLoads, IsEndFrom, Rise, load_if, load_of, own_packets, peak_of, sum_from, weighed, weighed_at, weighed_or}
 use Rattle.hsr_health.specs.declared.load.Load.{Load}
 use Rattle.hsr_health.specs.declared.load.Weighed.{Weighed}
 use Rattle.hsr_sightings.proofs.Counting.{slice_get_end, slice_get_left}
@@ -45,6 +45,24 @@ own_more interface packets i p old new here old_is new_is =
     new_is ∙ ap (λ l. l ++ own_packets interface (p ∷ [])) old_is ∙ sym (own_push interface (take i packets) p)
     ∙ ap (λ x. own_packets interface (take i packets ++ x ∷ [])) (sym (get_or_from_slice_get packets i p p here))
     ∙ ap (own_packets interface) (sym (take_more packets i p (slice_get_within packets i p here)))
+
+-- the index of one more packet, if it came at the interface
+pub own_put : (interface : ℕ) (packets : List PacketFields) (i : ℕ) (p : PacketFields) (old new : List ℕ) → slice_get packets i ≡ Some p
+    → map (weighed_at packets) old ≡ own_packets interface (take i packets) → new ≡ old ++ cond (nat_eq p.interface interface) (i ∷ []) []
+    → map (weighed_at packets) new ≡ own_packets interface (take (i + 1) packets)
+own_put interface packets i p old new here old_is new_is =
+    own_more interface packets i p (map (weighed_at packets) old) (map (weighed_at packets) new) here old_is
+    (ap (map (weighed_at packets)) new_is ∙ map-append (weighed_at packets) old (cond (nat_eq p.interface interface) (i ∷ []) [])
+    ∙ ap (λ l. map (weighed_at packets) old ++ l) (by_case (nat_eq p.interface interface)))
+  where
+    by_case : (b : Bool) → map (weighed_at packets) (cond b (i ∷ []) []) ≡ map weighed (cond b (p ∷ []) [])
+    by_case true = ap (λ o. weighed_or o ∷ []) here
+    by_case false = refl
+
+-- what the packet with an index among these weighs
+pub own_at : (packets : List PacketFields) (own : List ℕ) (k : ℕ) (x : Weighed) → k < length own → x ≡ weighed_at packets (slice_index own k)
+    → slice_get (map (weighed_at packets) own) k ≡ Some x
+own_at packets own k x below is = slice_get-map (weighed_at packets) own k ∙ ap (option_map (weighed_at packets)) (slice_get-get_or own k 0 below) ∙ ap Some (sym is)
 
 -- each has 64 bits at most
 load_small : (interface : ℕ) (packets : List PacketFields) → load_of (own_packets interface packets) ≤ length packets * (2 ^ 64 - 1)
@@ -148,16 +166,16 @@ abbrev pub AreNear : List Weighed → ℕ → ℕ → ℕ → Type 0
 AreNear packets i end width = (j k : ℕ) (v w : Weighed) → i ≤ j → k < end → slice_get packets j ≡ Some v → slice_get packets k ≡ Some w → w.at - v.at < width
 
 -- the next packet is near too
-pub near_one : (packets : List Weighed) (from k at width : ℕ) (d : Weighed) → ((j : ℕ) (w : Weighed) → from ≤ j → j < k → slice_get packets j ≡ Some w → w.at - at < width)
-    → (get_or packets k d).at - at < width → (j : ℕ) (w : Weighed) → from ≤ j → j < k + 1 → slice_get packets j ≡ Some w → w.at - at < width
-near_one packets from k at width d near next j w le below at_j = by_case (cases_lt j k)
+pub near_one : (packets : List Weighed) (from k at width : ℕ) (x : Weighed) → ((j : ℕ) (w : Weighed) → from ≤ j → j < k → slice_get packets j ≡ Some w → w.at - at < width)
+    → slice_get packets k ≡ Some x → x.at - at < width → (j : ℕ) (w : Weighed) → from ≤ j → j < k + 1 → slice_get packets j ≡ Some w → w.at - at < width
+near_one packets from k at width x near here next j w le below at_j = by_case (cases_lt j k)
   where
     by_case : (j < k) ⊎ (k ≤ j) → w.at - at < width
     by_case (inl before) = near j w le before at_j
     by_case (inr past) =
         let place : k ≡ j = omega (arith, past, below) in
-        let same : get_or packets k d ≡ w = get_or_from_slice_get packets k w d (ap (slice_get packets) place ∙ at_j) in
-        subst (λ (x : Weighed). x.at - at < width) same next
+        let same : x ≡ w = same_Some x w (sym here ∙ ap (slice_get packets) place ∙ at_j) in
+        subst (λ (y : Weighed). y.at - at < width) same next
 
 pub near_more : (packets : List Weighed) (i old end width : ℕ) (v : Weighed) → Rise packets → slice_get packets i ≡ Some v → IsEndFrom packets old v.at width end → AreNear packets i old width
     → AreNear packets i end width

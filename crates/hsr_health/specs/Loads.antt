@@ -2,7 +2,7 @@
 --     wire_bits     a packet with its preamble, its frame check sequence and the gap behind it, of the least frame or more
 --     load_of       of all packets of an interface
 --     peak_of       the greatest sum in a time of so many nanoseconds that begins with a packet
-use Rattle.std.specs.Prelude.{ℕ, ◌≡◌, ◌+◌, ◌-◌, ◌*◌, ◌<◌, ◌≤◌, ◌^◌, ◌==◌, max, min, nat_lt, Bool, true, false, List, [], ◌∷◌, filter, length, map, slice_get, Some}
+use Rattle.std.specs.Prelude.{ℕ, ◌≡◌, ◌+◌, ◌-◌, ◌*◌, ◌<◌, ◌≤◌, ◌^◌, ◌==◌, max, min, nat_lt, Bool, true, false, List, [], ◌∷◌, filter, length, map, slice_get, Option, Some, None}
 use Rattle.std.specs.List.{sum_by}
 use Rattle.hsr_capture_reader.specs.Fields.{PacketFields}
 use Rattle.hsr_taps.specs.Tallies.{is_at}
@@ -50,6 +50,14 @@ abbrev pub AreLoads : List Bool → List PacketFields → List Load → Type 0
 AreLoads looked packets loads = (i : ℕ) (own : Load) → slice_get loads i ≡ Some own → own ≡ load_if (is_at looked i) (own_packets i packets)
 
 -- ---- how it is computed
+
+abbrev pub weighed_or : Option PacketFields → Weighed
+weighed_or None = record { at = 0; bits = 0 }
+weighed_or (Some p) = weighed p
+
+-- the packet with an index, as it weighs
+abbrev pub weighed_at : List PacketFields → ℕ → Weighed
+weighed_at packets k = weighed_or (slice_get packets k)
 
 -- no packet comes before one that stands in front of it
 abbrev pub Rise : List Weighed → Type 0

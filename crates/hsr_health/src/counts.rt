@@ -3,7 +3,8 @@ ghost use Rattle.std.specs.Prelude.{◌≡◌, ◌++◌, ℕ, Bool, List, filter
 ghost use Rattle.hsr_frame.specs.Address.{is_group};
 ghost use Rattle.hsr_frame_groups.specs.Frames.{CaughtFields};
 ghost use Rattle.hsr_health.specs.Counted.{AreCounted, AreFated, AreOfSources, AreSkewed, AreSources, HaveNoFates, changed, counts_with, fates_with, mark_by, mark_of, more_if, no_counts, told_by, with_fate, with_skew};
-ghost use Rattle.hsr_spread.specs.Spreads.{AreSpreads};
+ghost use Rattle.hsr_spread.specs.Spreads.{AreSpreads, AreTold, many_of};
+ghost use Rattle.hsr_spread.specs.declared.spread.Told as the_told;
 ghost use Rattle.hsr_health.specs.declared.counts.Counts as the_counts;
 ghost use Rattle.hsr_sightings.specs.Copies.{is_clash, is_late};
 ghost use Rattle.hsr_sightings.specs.Frames.{begins};
@@ -16,7 +17,7 @@ use hsr_frame::NoMemory;
 use hsr_frame_copies::has_right_size;
 use hsr_frame_groups::Caught;
 use hsr_sightings::{Fate, Ring, Sighting, fate_of, skew_of};
-use hsr_spread::{Spread, Told, spreads_of};
+use hsr_spread::{Amounts, Spread, Told};
 use std::alloc::Global;
 
 /// How many frames had each fate, once for each point that saw them.
@@ -270,20 +271,27 @@ fn told_of(of_copy: &[u32], seen: &Sighting) -> Option<Told>
 }
 
 /// Puts what is told behind others, if there is something.
-fn put_told(all: &mut Vec<Told>, told: Option<Told>) -> Result<(), NoMemory>
-    ensures { OnOk result (all.new.items ≡ all.old.items ++ option_to_list told) }
+fn put_told(all: &mut Amounts, told: Option<Told>) -> Result<(), NoMemory>
+    ensures many { many_of all.new ≡ many_of all.old }
+    ensures told { OnOk result ((before : List the_told.Told) → AreTold before all.old → AreTold (before ++ option_to_list told) all.new) }
 {
     if let Some(one) = told {
-        all.push(one)?;
+        all.put(one)?;
     }
     Ok(())
 }
 
-/// The skews of all sightings, by source.
-fn all_skews(alloc: Global, of_copy: &[u32], sightings: &[Sighting]) -> Result<Vec<Told>, NoMemory>
-    ensures { IfOk result (λ all. all.items ≡ filter_map (told_by of_copy.now) sightings.now) }
+/// The skews of all sightings, each with those of its source.
+fn all_skews(
+    alloc: Global,
+    of_copy: &[u32],
+    sightings: &[Sighting],
+    many: usize,
+) -> Result<Amounts, NoMemory>
+    ensures many { IfOk result (λ all. many_of all ≡ many) }
+    ensures told { IfOk result (AreTold (filter_map (told_by of_copy.now) sightings.now)) }
 {
-    let mut all = Vec::new(alloc);
+    let mut all = Amounts::new(alloc, many)?;
     for seen in sightings {
         put_told(&mut all, told_of(of_copy, seen))?;
     }
@@ -300,8 +308,8 @@ fn skews_of(
     ensures long { IfOk result (λ spreads. length spreads.items ≡ many) }
     ensures spreads { IfOk result (λ spreads. AreSpreads (filter_map (told_by of_copy.now) sightings.now) spreads.items) }
 {
-    let all = all_skews(alloc, of_copy, sightings)?;
-    let spreads = spreads_of(alloc, all.as_slice(), many)?;
+    let all = all_skews(alloc, of_copy, sightings, many)?;
+    let spreads = all.spreads(alloc)?;
     Ok(spreads)
 }
 

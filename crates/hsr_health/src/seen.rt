@@ -2,6 +2,8 @@
 ghost use Rattle.std.specs.Prelude.{◌≡◌, map, slice_get, IfOk};
 ghost use Rattle.std.specs.List.{range_with_len};
 ghost use Rattle.hsr_health.specs.Whole.{AreCaught, AreFramed, IsSeen, is_lane};
+ghost use Rattle.hsr_sightings.specs.Copies.{carried_before};
+ghost use Rattle.hsr_sightings.specs.Read.{AreRead, AreSightings, HasPlaces, HasWays, TellsEach};
 ghost use Rattle.hsr_taps.specs.Directions.{interface_of};
 
 use crate::counts::{Marks, marks_of};
@@ -43,6 +45,24 @@ pub(crate) struct Seen {
     pub(crate) marks: Vec<Marks>,
 }
 
+/// The frames at points. The places of the copies that began frames go here: nothing else is told of them, and marks come next.
+fn sightings_by(
+    alloc: Global,
+    ring: &Ring<'_>,
+    copies: &[Caught<'_>],
+    firsts: Vec<u32>,
+    carried: &[u32],
+) -> Result<Sightings, NoMemory>
+    requires read { AreRead copies.now firsts.items }
+    requires carried { TellsEach carried_before copies.now carried.now }
+    requires places { HasPlaces ring.now }
+    requires ways { HasWays ring.now }
+    ensures { IfOk result (λ found. AreSightings ring.now copies.now found.all.items found.of_copy.items) }
+{
+    let found = sightings_of(alloc, ring, copies, firsts.as_slice(), carried)?;
+    Ok(found)
+}
+
 /// What the copies of a capture tell of one another, where this is what they tell as copies of frames.
 pub(crate) fn seen_of(
     alloc: Global,
@@ -63,7 +83,7 @@ pub(crate) fn seen_of(
         overtaken,
     } = framed;
     let before = carried.as_slice();
-    let sightings = sightings_of(alloc, ring, copies, firsts.as_slice(), before)?;
+    let sightings = sightings_by(alloc, ring, copies, firsts, before)?;
     let all = sightings.all.as_slice();
     let numbers = sightings.of_copy.as_slice();
     let lates = lates_of(alloc, copies, all, numbers)?;

@@ -3,6 +3,7 @@ use Rattle.std.specs.Prelude.{ℕ, ◌≡◌, ◌-◌, ◌/◌, ◌==◌, if◌t
 use Rattle.std.specs.Global.{Global}
 use Rattle.std.specs.List.Sorted.{IsSorted}
 use Rattle.std.specs.Ordering.{nat_cmp}
+use Rattle.hsr_spread.specs.declared.spread.Amounts.{Amounts}
 use Rattle.hsr_spread.specs.declared.spread.Spread.{Spread}
 use Rattle.hsr_spread.specs.declared.spread.Told.{Told}
 
@@ -40,6 +41,14 @@ lists_of vs = map items_of vs
 -- of each its numbers
 abbrev pub AreAmounts : List Told → List (List ℕ) → Type 0
 AreAmounts told lists = (k : ℕ) (own : List ℕ) → slice_get lists k ≡ Some own → own ≡ amounts_of k told
+
+-- of how many
+abbrev pub many_of : Amounts → ℕ
+many_of amounts = length amounts.lists.items
+
+-- these are what is told
+abbrev pub AreTold : List Told → Amounts → Type 0
+AreTold told amounts = AreAmounts told (lists_of amounts.lists.items)
 
 -- of numbers in order
 abbrev pub spread_in : List ℕ → Option Spread

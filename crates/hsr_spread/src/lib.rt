@@ -6,4 +6,4 @@
 
 mod spread;
 
-pub use spread::{Spread, Told, spread_of, spreads_of};
+pub use spread::{Amounts, Spread, Told, spread_of};

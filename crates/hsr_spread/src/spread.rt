@@ -1,6 +1,6 @@
 //! The least, the lower median and the greatest of numbers.
 ghost use Rattle.std.specs.Prelude.{◌≡◌, ◌<◌, ◌++◌, ◌∷◌, [], List, length, replicate, slice_index_or, slice_set, IfOk, OnOk};
-ghost use Rattle.hsr_spread.specs.Spreads.{AreAmounts, AreSpreads, IsSpread, lists_of, spread_in};
+ghost use Rattle.hsr_spread.specs.Spreads.{AreAmounts, AreSpreads, AreTold, IsSpread, lists_of, many_of, spread_in};
 ghost use Rattle.hsr_spread.specs.declared.spread.Told as the_told;
 
 use hsr_frame::NoMemory;
@@ -79,32 +79,39 @@ fn no_amounts(alloc: Global, many: usize) -> Result<Vec<Vec<u64>>, NoMemory>
     Ok(amounts)
 }
 
-/// The numbers that are told of each of so many.
-fn amounts_of(alloc: Global, told: &[Told], many: usize) -> Result<Vec<Vec<u64>>, NoMemory>
-    ensures long { IfOk result (λ amounts. length amounts.items ≡ many) }
-    ensures amounts { IfOk result (λ amounts. AreAmounts told.now (lists_of amounts.items)) }
-{
-    let mut amounts = no_amounts(alloc, many)?;
-    for i in 0..told.len() {
-        put_amount(&mut amounts, told[i])?;
-    }
-    Ok(amounts)
+/// The numbers that are told of each of several. Each is kept once, with those of its own, so that no list of all is needed beside them.
+#[derive(Drop)]
+pub struct Amounts {
+    lists: Vec<Vec<u64>>,
 }
 
-/// The spread of what is told of each of so many: one for each, none of whom nothing is told. What is told of others isn't counted. `NoMemory`
-/// where room is refused.
-pub fn spreads_of(
-    alloc: Global,
-    told: &[Told],
-    many: usize,
-) -> Result<Vec<Option<Spread>>, NoMemory>
-    ensures long { IfOk result (λ spreads. length spreads.items ≡ many) }
-    ensures spreads { IfOk result (λ spreads. AreSpreads told.now spreads.items) }
-{
-    let amounts = amounts_of(alloc, told, many)?;
-    let mut spreads = Vec::new(alloc);
-    for k in 0..amounts.len() {
-        spreads.push(spread_of(alloc, amounts[k].as_slice())?)?;
+impl Amounts {
+    /// Nothing is told yet of so many. `NoMemory` where room is refused.
+    pub fn new(alloc: Global, many: usize) -> Result<Amounts, NoMemory>
+        ensures many { IfOk result (λ amounts. many_of amounts ≡ many) }
+        ensures told { IfOk result (AreTold []) }
+    {
+        let lists = no_amounts(alloc, many)?;
+        Ok(Amounts { lists })
     }
-    Ok(spreads)
+
+    /// Puts a number behind those that are told of one; what is told of others isn't kept. `NoMemory` where room is refused.
+    pub fn put(&mut self, one: Told) -> Result<(), NoMemory>
+        ensures many { many_of self.new ≡ many_of self.old }
+        ensures told { OnOk result ((told : List the_told.Told) → AreTold told self.old → AreTold (told ++ one ∷ []) self.new) }
+    {
+        put_amount(&mut self.lists, one)
+    }
+
+    /// The spread of what is told of each: one for each, none of whom nothing is told. `NoMemory` where room is refused.
+    pub fn spreads(&self, alloc: Global) -> Result<Vec<Option<Spread>>, NoMemory>
+        ensures long { IfOk result (λ spreads. length spreads.items ≡ many_of self.now) }
+        ensures spreads { IfOk result (λ spreads. (told : List the_told.Told) → AreTold told self.now → AreSpreads told spreads.items) }
+    {
+        let mut spreads = Vec::new(alloc);
+        for k in 0..self.lists.len() {
+            spreads.push(spread_of(alloc, self.lists[k].as_slice())?)?;
+        }
+        Ok(spreads)
+    }
 }

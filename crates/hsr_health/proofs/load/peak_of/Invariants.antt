@@ -1,5 +1,5 @@
-use Rattle.std.proofs.Common.{◌≡◌, ◌<◌, ◌≤◌, ◌^◌, drop, length, max, take}
-use Rattle.hsr_health.specs.Loads.{load_of, peak_of}
+use Rattle.std.proofs.Common.{◌≡◌, ◌<◌, ◌≤◌, ◌^◌, drop, length, map, max, take}
+use Rattle.hsr_health.specs.Loads.{load_of, peak_of, weighed_at}
 use Rattle.hsr_health.proofs.Loading.{AreNear}
 use Rattle.hsr_health.proofs.load.peak_of.Given as goal
 
@@ -7,9 +7,10 @@ use Rattle.hsr_health.proofs.load.peak_of.Given as goal
 abbrev pub invariant-loop-i : goal.invariant-loop-i
 invariant-loop-i l = record {
   behind : l.i ≤ l.summed.end;
-  within : l.summed.end ≤ length l.packets;
-  near : AreNear l.packets l.i l.summed.end l.width;
-  summed : load_of l.packets < 2 ^ 128 → l.summed.bits ≡ load_of (take l.summed.end l.packets);
-  before : load_of l.packets < 2 ^ 128 → l.before ≡ load_of (take l.i l.packets);
-  peak : load_of l.packets < 2 ^ 128 → max l.peak (peak_of l.width (drop l.i l.packets)) ≡ peak_of l.width l.packets;
+  within : l.summed.end ≤ length l.own;
+  near : AreNear (map (weighed_at l.packets) l.own) l.i l.summed.end l.width;
+  summed : load_of (map (weighed_at l.packets) l.own) < 2 ^ 128 → l.summed.bits ≡ load_of (take l.summed.end (map (weighed_at l.packets) l.own));
+  before : load_of (map (weighed_at l.packets) l.own) < 2 ^ 128 → l.before ≡ load_of (take l.i (map (weighed_at l.packets) l.own));
+  peak : load_of (map (weighed_at l.packets) l.own) < 2 ^ 128
+      → max l.peak (peak_of l.width (drop l.i (map (weighed_at l.packets) l.own))) ≡ peak_of l.width (map (weighed_at l.packets) l.own);
 }

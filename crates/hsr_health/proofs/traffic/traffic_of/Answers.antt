@@ -25,7 +25,12 @@ pub tap-requires-clause-time : goal.tap-requires-clause-time
 tap-requires-clause-time c = in_order_from c.in_ok-sorted.sorted.items c.in_ok-sorted.ensures.sorted
 
 pub loads_of-requires : goal.loads_of-requires
-loads_of-requires c = subst AreInOrder (sym c.as_slice-in_order.ensures.value) (in_order_from c.in_ok-sorted.sorted.items c.in_ok-sorted.ensures.sorted)
+loads_of-requires c =
+    let in_time = subst (λ l. IsInTime l c.in_ok-sorted.sorted.items) (ap (λ (x : CaptureFields). x.packets) c.capture.view_is) c.in_ok-sorted.ensures in
+    record {
+      order = subst AreInOrder (sym c.as_slice-in_order.ensures.value) (in_order_from c.in_ok-sorted.sorted.items c.in_ok-sorted.ensures.sorted);
+      few = omega (arith, length_permutation _ _ in_time.same, c.requires.packets, ap length c.as_slice-in_order.ensures.value);
+    }
 
 pub returns : goal.returns
 returns c =
