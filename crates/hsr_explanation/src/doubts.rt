@@ -6,8 +6,8 @@ use hsr_audit::Doubt;
 use hsr_finished_run::Closed;
 use hsr_frame::NoMemory;
 use hsr_node::Place;
-use hsr_routes::{is_in_h_or_u, share_address};
 use hsr_report::Finding;
+use hsr_routes::{is_in_h_or_u, share_address};
 use hsr_toml::put;
 use std::alloc::Global;
 
