@@ -1,6 +1,6 @@
 #!/usr/bin/env bash
-# Tries how programs are found, kept, released and installed: bin/, tools/sources, tools/build, tools/built, tools/release and install, on
-# small trees with stand-ins for the programs and for the kit. The last line is `N passed, M failed`. It needs bash,
+# Tries how programs are found, kept, released and installed: bin/, tools/sources, tools/build, tools/gate, tools/built, tools/release and
+# install, on small trees with stand-ins for the programs and for the kit. The last line is `N passed, M failed`. It needs bash,
 # coreutils, grep, sed, awk and Python 3.
 #
 #     tests/launcher.sh
@@ -232,6 +232,52 @@ try_build() {
     "$(call "${bench[@]}")"
 }
 
+# tools/gate calls rt as it is; only that of kit 13b is loaded, and then asks once for each crate, also where it works on a copy of one.
+try_gate() {
+  mkdir "$work/forgets"
+  cat >"$work/forgets/rt" <<'RT'
+#!/usr/bin/env python3
+import copy
+import sys
+
+
+class Crate:
+    asked = 0
+
+    def __init__(self, folder):
+        self.folder = folder
+
+    def below(self):
+        Crate.asked += 1
+        return []
+
+    def stamp(self):
+        Crate.asked += 1
+        return self.folder
+
+
+class rtlib:
+    Crate = Crate
+
+
+def main(words):
+    if words == ["version"]:
+        print("rattle-kit-13b logic one")
+        return 0
+    crates = [Crate("one"), Crate("two")]
+    told = [(it.below(), it.stamp()) for it in [*crates, *map(copy.copy, crates)]]
+    print(*words, *[stamp for _, stamp in told], Crate.asked)
+    return 5
+
+
+if __name__ == "__main__":
+    sys.exit(main(sys.argv[1:]))
+RT
+  chmod +x "$work/forgets/rt"
+  is 'the gate of a kit that forgets' 'ci one two one two 4 = 5' "$(call env PATH="$work/forgets:$PATH" "$tree/tools/gate")"
+  is 'the gate of another kit' '0 passed, 1 failed = 1' "$(cd "$work" && call with_kit "$tree/tools/gate")"
+}
+
 try_release() {
   local sum name
   lay_tree; rm -rf "$tree/release"
@@ -355,6 +401,7 @@ try_copy
 try_read_only
 try_race
 try_build
+try_gate
 try_release
 try_install
 try_sum
