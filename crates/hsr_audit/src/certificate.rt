@@ -9,7 +9,7 @@ use std::alloc::Global;
 use std::marker::Model;
 
 /// A send, and the numbers of the nodes that it is for, rising.
-#[derive(Debug, Drop)]
+#[derive(Drop)]
 pub struct Certified {
     pub probe: Probe,
     pub receivers: Vec<usize>,
@@ -25,7 +25,7 @@ impl Model for Certified {
 
 /// All sends of a run, by node and place: each came to the nodes that it is for, and just once (IEC 62439-3
 /// clause 5.3).
-#[derive(Debug, Drop)]
+#[derive(Drop)]
 pub struct Certificate {
     pub sends: Vec<Certified>,
 }

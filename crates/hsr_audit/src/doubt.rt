@@ -7,7 +7,7 @@ use hsr_table_flaws::Flaw;
 
 /// Why a run can't be certified, in the order in which the reasons are tried: each of a ring's audit or of a network's,
 /// or of both. Of those that name a place of a node's record the lowest node is named, and its lowest place.
-#[derive(Clone, Copy, Debug, PartialEq, Eq)]
+#[derive(Clone, Copy, PartialEq, Eq)]
 pub enum Doubt {
     /// The nodes and links aren't a ring of two DANHs or more, whatever their modes and addresses: link i joins B of
     /// node i with A of the next one.
@@ -58,7 +58,7 @@ pub enum Doubt {
 }
 
 /// Why there is no certificate.
-#[derive(Clone, Copy, Debug, PartialEq, Eq)]
+#[derive(Clone, Copy, PartialEq, Eq)]
 pub enum AuditFault {
     /// The first doubt.
     Doubt(Doubt),

@@ -20,7 +20,7 @@ use hsr_table_flaws::first_flaw;
 use std::alloc::Global;
 
 /// That a run of a network is certified: who got each of its sends, all of which are complete.
-#[derive(Debug, Drop)]
+#[derive(Drop)]
 pub struct NetworkCertificate {
     pub deliveries: Deliveries,
 }

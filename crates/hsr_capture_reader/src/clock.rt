@@ -3,7 +3,7 @@ ghost use Rattle.std.specs.Prelude.{◌≡◌, ◌-◌, ◌<◌, ◌^◌, min};
 ghost use Rattle.hsr_capture_reader.specs.Clock.{moment_of, moved_by, nanoseconds};
 
 /// How an interface stamps its packets (draft-ietf-opsawg-pcapng, section 4.2).
-#[derive(Clone, Copy, Debug, PartialEq, Eq)]
+#[derive(Clone, Copy, PartialEq, Eq)]
 pub struct Clock {
     /// As `if_tsresol` has it: below 128, stamps count seconds over this power of ten; from 128 on, over the power of two that is
     /// 128 less.

@@ -2,7 +2,7 @@
 use std::alloc::{AllocError, AllocFailed};
 
 /// What is wrong with a file.
-#[derive(Clone, Copy, Debug, PartialEq, Eq)]
+#[derive(Clone, Copy, PartialEq, Eq)]
 pub enum CaptureFault {
     /// The file has over 2^28 octets.
     TooLarge,
@@ -29,14 +29,14 @@ pub enum CaptureFault {
 }
 
 /// What is wrong with a file, and where: at the octet, from 0, at which the block or the packet begins, or at 0 for the whole.
-#[derive(Clone, Copy, Debug, PartialEq, Eq)]
+#[derive(Clone, Copy, PartialEq, Eq)]
 pub struct Refusal {
     pub offset: usize,
     pub fault: CaptureFault,
 }
 
 /// Why a file can't be read.
-#[derive(Clone, Copy, Debug, PartialEq, Eq)]
+#[derive(Clone, Copy, PartialEq, Eq)]
 pub enum ReadFault {
     /// Something is wrong with it.
     Refused(Refusal),

@@ -28,7 +28,7 @@ impl<'a> Model for Interface<'a> {
 }
 
 /// How many packets the capture itself lost at an interface, as far as it says so. No number passes 2^64 - 1.
-#[derive(Clone, Copy, Debug, Default, PartialEq, Eq)]
+#[derive(Clone, Copy, Default, PartialEq, Eq)]
 pub struct Losses {
     /// The sum of what its packets say (`epb_dropcount`).
     pub by_packets: Option<u64>,
@@ -77,7 +77,7 @@ impl Losses {
 }
 
 /// Which way a packet passed its interface, as its flags say.
-#[derive(Clone, Copy, Debug, PartialEq, Eq)]
+#[derive(Clone, Copy, PartialEq, Eq)]
 pub enum Way {
     In,
     Out,

@@ -3,7 +3,7 @@ ghost use Rattle.std.specs.Prelude.{◌≡◌, ◌+◌, ◌*◌, ◌<◌, length
 ghost use Rattle.hsr_capture_reader.specs.Numbers.{number16, number32, number64};
 
 /// In which order the octets of a number stand.
-#[derive(Clone, Copy, Debug, PartialEq, Eq)]
+#[derive(Clone, Copy, PartialEq, Eq)]
 pub enum ByteOrder {
     /// The low octet first.
     Little,

@@ -32,7 +32,7 @@ use hsr_topology::Topology;
 use std::alloc::Global;
 
 /// That a scenario is certified in any order: how many sends it asks for.
-#[derive(Clone, Copy, Debug, PartialEq, Eq)]
+#[derive(Clone, Copy, PartialEq, Eq)]
 pub struct Certified {
     pub sends: usize,
 }

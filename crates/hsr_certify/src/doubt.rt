@@ -5,7 +5,7 @@ use hsr_frame::NoMemory;
 
 /// Why a scenario can't be certified, in the order in which the reasons are tried; each at its lowest step. Steps, nodes and links
 /// are counted from 0.
-#[derive(Clone, Copy, Debug, PartialEq, Eq)]
+#[derive(Clone, Copy, PartialEq, Eq)]
 pub enum Doubt {
     /// No step asks for a send.
     Empty,
@@ -38,7 +38,7 @@ pub enum Doubt {
 }
 
 /// Why there is no certificate.
-#[derive(Clone, Copy, Debug, PartialEq, Eq)]
+#[derive(Clone, Copy, PartialEq, Eq)]
 pub enum CertifyFault {
     /// The first doubt.
     Doubt(Doubt),

@@ -38,7 +38,7 @@ fn avoided(orders: &[Order], span: &SendSpan, links: usize) -> Numbers
 }
 
 /// A send that doesn't come to a node that it is due at: the index of its step, and the lowest such node.
-#[derive(Clone, Copy, Debug, PartialEq, Eq)]
+#[derive(Clone, Copy, PartialEq, Eq)]
 pub(crate) struct CutOff {
     pub(crate) step: usize,
     pub(crate) node: usize,

@@ -15,7 +15,7 @@ use std::alloc::Global;
 const STEP_LIMIT: usize = 1 << 32;
 
 /// A verdict on a scenario: a certificate, or the first doubt.
-#[derive(Clone, Copy, Debug, PartialEq, Eq)]
+#[derive(Clone, Copy, PartialEq, Eq)]
 pub enum Verdict {
     Certified(Certified),
     Doubted(Doubt),

@@ -3,7 +3,7 @@ use hsr_options::Showing;
 use hsr_table_size::TableSize;
 
 /// Which links and nodes are taken to be off from the start, one after the other.
-#[derive(Clone, Copy, Debug, PartialEq, Eq)]
+#[derive(Clone, Copy, PartialEq, Eq)]
 pub enum Faults {
     /// None: all are on.
     None,
@@ -14,14 +14,14 @@ pub enum Faults {
 }
 
 /// A part of a sweep: each `of`-th case from the one with this number on, counted from 1.
-#[derive(Clone, Copy, Debug, PartialEq, Eq)]
+#[derive(Clone, Copy, PartialEq, Eq)]
 pub struct Part {
     pub number: u64,
     pub of: u64,
 }
 
 /// What a sweep is asked for.
-#[derive(Clone, Copy, Debug, PartialEq, Eq)]
+#[derive(Clone, Copy, PartialEq, Eq)]
 pub struct SweepWords {
     /// From which moment on links and nodes are off, in microseconds.
     pub at: u64,
@@ -38,7 +38,7 @@ pub struct SweepWords {
 }
 
 /// What a page about a plan is asked for.
-#[derive(Clone, Copy, Debug, PartialEq, Eq)]
+#[derive(Clone, Copy, PartialEq, Eq)]
 pub struct ReportWords<'a> {
     /// What stands on the page as its date, as it was handed in; none, where it isn't said.
     pub date: Option<&'a str>,
@@ -53,7 +53,7 @@ pub struct ReportWords<'a> {
 }
 
 /// What arguments of hsr_plan choose.
-#[derive(Clone, Copy, Debug, PartialEq, Eq)]
+#[derive(Clone, Copy, PartialEq, Eq)]
 pub enum Task<'a> {
     /// A plan is written as a scenario, for a run with tables of this size.
     Plan {

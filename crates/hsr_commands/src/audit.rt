@@ -31,7 +31,7 @@ use std::io::{Read, Write};
 /// What is shown of the run of a transcript: which audit its last line and the status are of, which parts its report has, and the text of the
 /// scenario whose names are in it; and the folder into which its tables are put. Without a scenario it has numbers, and without a folder
 /// there are no tables.
-#[derive(Clone, Copy, Debug, PartialEq, Eq)]
+#[derive(Clone, Copy, PartialEq, Eq)]
 pub struct AuditShowing<'a> {
     pub scope: Scope,
     pub asked: Asked,

@@ -14,7 +14,7 @@ use std::alloc::AllocError;
 use std::fmt;
 
 /// How a run ended.
-#[derive(Clone, Copy, Debug, PartialEq, Eq)]
+#[derive(Clone, Copy, PartialEq, Eq)]
 pub enum Status {
     /// All is as it should be: of `node`, all lines were answered.
     Certified,
@@ -27,7 +27,7 @@ pub enum Status {
 }
 
 /// Why a run stopped.
-#[derive(Clone, Copy, Debug, PartialEq, Eq)]
+#[derive(Clone, Copy, PartialEq, Eq)]
 pub enum Fault {
     /// A line, counted from 1, that is bad or too long.
     Line(u64),
@@ -58,7 +58,7 @@ pub enum Fault {
 }
 
 /// Why a text isn't read as a transcript.
-#[derive(Clone, Copy, Debug, PartialEq, Eq)]
+#[derive(Clone, Copy, PartialEq, Eq)]
 pub enum TranscriptFault {
     /// Its first line is that of no version that is read.
     Version,

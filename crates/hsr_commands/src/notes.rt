@@ -13,7 +13,7 @@ use hsr_world_steps::DrainFault;
 use std::alloc::Global;
 
 /// Whether more is to be said of how a run ended, and what is. It changes neither what is written of the run nor its status.
-#[derive(Debug, Drop)]
+#[derive(Drop)]
 pub struct Notes {
     pub explains: bool,
     pub explanation: Explanation,

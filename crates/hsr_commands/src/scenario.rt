@@ -36,7 +36,7 @@ struct Reached<const C: usize> {
 }
 
 /// What there is of a run: what is shown of it; or the text of one that can't be closed.
-#[derive(Debug, Drop)]
+#[derive(Drop)]
 enum Shown {
     Closed { shown: ShownRun },
     Open { text: Vec<u8> },

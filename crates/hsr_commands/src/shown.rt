@@ -22,7 +22,7 @@ use std::alloc::Global;
 use std::io::Write;
 
 /// What is shown of a finished run: what its audit found, a text, and its tables, if a folder is given for them.
-#[derive(Debug, Drop)]
+#[derive(Drop)]
 pub struct ShownRun {
     pub finding: Finding,
     pub text: Vec<u8>,

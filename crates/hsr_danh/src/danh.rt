@@ -17,13 +17,13 @@ use std::alloc::Global;
 use std::marker::Model;
 
 /// The number of a frame that was sent: it leaves by both ports, with the path 0 on A and 1 on B.
-#[derive(Clone, Copy, Debug, PartialEq, Eq)]
+#[derive(Clone, Copy, PartialEq, Eq)]
 pub struct Sent {
     pub seq: u16,
 }
 
 /// Where an arrival passed, and why.
-#[derive(Clone, Copy, Debug, PartialEq, Eq)]
+#[derive(Clone, Copy, PartialEq, Eq)]
 pub struct Verdict {
     pub up: bool,
     pub a: bool,

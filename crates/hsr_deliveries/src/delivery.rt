@@ -16,7 +16,7 @@ use std::marker::Model;
 ///
 /// To a group a send is due at each DANH, RedBox and Station but the sender, a supervision frame at no Station (IEC 62439-3
 /// clause 5.7); else at each node but the sender that has the address.
-#[derive(Debug, Drop)]
+#[derive(Drop)]
 pub struct Delivery {
     pub send: Probe,
     pub at: u64,
@@ -37,7 +37,7 @@ impl Model for Delivery {
 }
 
 /// Who got each send of a run, by node and place.
-#[derive(Debug, Drop)]
+#[derive(Drop)]
 pub struct Deliveries {
     pub sends: Vec<Delivery>,
 }

@@ -7,7 +7,7 @@ use hsr_frame::Cause;
 use hsr_node::{Entry, Event, Outcome};
 
 /// What is counted of a record at a port: arrivals there, by what became of them, and copies that left by it.
-#[derive(Clone, Copy, Debug, PartialEq, Eq)]
+#[derive(Clone, Copy, PartialEq, Eq)]
 pub enum Counted {
     /// Arrivals.
     Arrived,

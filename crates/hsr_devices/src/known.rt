@@ -14,7 +14,7 @@ use hsr_tag::look_at;
 
 /// What a node knows: the nodes of which it heard supervision frames on the ring, and of a RedBox the stations that it
 /// heard on its interlink, each with the moment in microseconds when it was heard last; the latest heard first.
-#[derive(Clone, Debug, Drop)]
+#[derive(Clone, Drop)]
 pub struct Known {
     pub nodes: ArrayVec<NodeRow, ROW_LIMIT>,
     pub stations: ArrayVec<(Mac, u64), ROW_LIMIT>,

@@ -13,7 +13,7 @@ use hsr_topology::End;
 
 /// The link of a port, counted from 0: the port at its other end; how many copies were lost on the way to the port, and
 /// how many of those that left by it; and the octets of those that came and of all that were put there.
-#[derive(Clone, Copy, Debug, PartialEq, Eq)]
+#[derive(Clone, Copy, PartialEq, Eq)]
 pub struct PortLink {
     pub link: usize,
     pub peer: End,

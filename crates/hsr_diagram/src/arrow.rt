@@ -2,7 +2,7 @@
 use hsr_timeline::{Shown, Spot, Stamp};
 
 /// What became of a copy.
-#[derive(Clone, Copy, Debug, PartialEq, Eq)]
+#[derive(Clone, Copy, PartialEq, Eq)]
 pub enum Look {
     /// It was taken up.
     TakenUp,
@@ -20,7 +20,7 @@ pub enum Look {
 
 /// The way of a copy: its row, with where it stands in the order of time; the entry that passed it, with its stamp; and the
 /// entry that judged it, none where it was lost.
-#[derive(Clone, Copy, Debug, PartialEq, Eq)]
+#[derive(Clone, Copy, PartialEq, Eq)]
 pub struct Arrow {
     pub row: Shown,
     pub passed: Option<Spot>,

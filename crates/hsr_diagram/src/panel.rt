@@ -4,7 +4,7 @@ use std::marker::Model;
 
 /// The space between two lines of nodes that stand side by side: the link that joins them, by its number, and its ends
 /// there.
-#[derive(Clone, Copy, Debug, PartialEq, Eq)]
+#[derive(Clone, Copy, PartialEq, Eq)]
 pub struct Lane {
     pub link: usize,
     pub left: End,
@@ -13,7 +13,7 @@ pub struct Lane {
 
 /// Lines of nodes that stand side by side: the first node, and the lanes behind it. Each lane begins at the line where
 /// the one before it ends. A ring ends with its first node again.
-#[derive(Debug, Drop)]
+#[derive(Drop)]
 pub struct Panel {
     pub first: usize,
     pub lanes: Vec<Lane>,

@@ -23,7 +23,7 @@ pub const COPY_LIMIT: usize = 400;
 
 /// What a picture of a run shows: the panels of its nodes; an arrow for each row that is wanted, in the order of time;
 /// who got each send of the run; and which sends are listed beside.
-#[derive(Debug, Drop)]
+#[derive(Drop)]
 pub struct Picture {
     pub panels: Vec<Panel>,
     pub arrows: Vec<Arrow>,
@@ -40,7 +40,7 @@ impl Model for Picture {
 }
 
 /// Why there is no picture.
-#[derive(Clone, Copy, Debug, PartialEq, Eq)]
+#[derive(Clone, Copy, PartialEq, Eq)]
 pub enum PictureFault {
     /// The run hasn't a send that is asked for.
     NoSend,

@@ -12,7 +12,7 @@ use hsr_timeline::{Spot, Stamp, stamp_at};
 use std::alloc::Global;
 
 /// A send that is listed: its index among the deliveries of the run, and the stamp of its entry.
-#[derive(Clone, Copy, Debug, PartialEq, Eq)]
+#[derive(Clone, Copy, PartialEq, Eq)]
 pub struct Sent {
     pub number: usize,
     pub start: Option<Stamp>,

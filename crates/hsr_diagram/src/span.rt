@@ -3,7 +3,7 @@ ghost use Rattle.std.specs.Prelude.{◌≡◌};
 ghost use Rattle.hsr_diagram.specs.Wanted.{is_in, is_reversed};
 
 /// Moments in microseconds: from one on, if it is given, and until another, if that is; both are of it.
-#[derive(Clone, Copy, Debug, PartialEq, Eq)]
+#[derive(Clone, Copy, PartialEq, Eq)]
 pub struct Span {
     pub from: Option<u64>,
     pub until: Option<u64>,

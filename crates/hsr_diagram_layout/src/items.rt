@@ -8,7 +8,7 @@ use hsr_frame::NoMemory;
 use std::alloc::Global;
 
 /// A send that is listed: its stamp, and its index among the deliveries. The order of its fields is that of the list.
-#[derive(Clone, Copy, Debug, PartialEq, Eq, PartialOrd, Ord)]
+#[derive(Clone, Copy, PartialEq, Eq, PartialOrd, Ord)]
 pub(crate) struct Item {
     pub moment: u64,
     pub step: u64,

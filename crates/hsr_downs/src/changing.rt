@@ -9,7 +9,7 @@ use std::alloc::Global;
 
 /// A step that cuts or mends a link, by the link's number: its moment in microseconds, the greatest that any step
 /// before it sets, 0 where none does; and how many sends, supervisions and ages stand before it.
-#[derive(Clone, Copy, Debug, PartialEq, Eq)]
+#[derive(Clone, Copy, PartialEq, Eq)]
 pub struct Change {
     pub link: usize,
     pub is_cut: bool,

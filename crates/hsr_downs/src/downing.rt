@@ -9,7 +9,7 @@ use std::alloc::Global;
 
 /// The time in which a link is down: from the step that cuts it to the next one that mends it, or cuts it once more;
 /// without one to the end of the run.
-#[derive(Clone, Copy, Debug, PartialEq, Eq)]
+#[derive(Clone, Copy, PartialEq, Eq)]
 pub struct Down {
     pub cut: Change,
     pub end: Option<Change>,

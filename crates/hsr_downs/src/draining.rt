@@ -9,7 +9,7 @@ use std::alloc::Global;
 
 /// A drain, which brings all that is on its way to its end: its moment in microseconds, the greatest that any step before it sets, 0
 /// where none does; and how many sends, supervisions and ages stand before it.
-#[derive(Clone, Copy, Debug, PartialEq, Eq)]
+#[derive(Clone, Copy, PartialEq, Eq)]
 pub struct Drain {
     pub moment: u64,
     pub planned: usize,

@@ -10,7 +10,7 @@ use std::alloc::Global;
 
 /// A change with which a node goes off, since the last of its links goes down that was up; or with which it comes on,
 /// since one of its links is up again.
-#[derive(Clone, Copy, Debug, PartialEq, Eq)]
+#[derive(Clone, Copy, PartialEq, Eq)]
 pub struct Switch {
     pub node: usize,
     pub is_off: bool,

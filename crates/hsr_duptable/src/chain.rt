@@ -11,7 +11,7 @@ use circular_buffer::HeapCircularBuffer;
 
 /// A note, and the serial of the next older one of its bucket, 0 where there never was one. Serials count all notes that
 /// a table ever made, from 1 on.
-#[derive(Clone, Copy, Debug)]
+#[derive(Clone, Copy)]
 pub(crate) struct Entry {
     pub note: Note,
     pub older: u64,

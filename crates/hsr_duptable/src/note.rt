@@ -8,7 +8,7 @@ use std::marker::Model;
 pub const ENTRY_FORGET: u64 = 400_000;
 
 /// What tells a frame from others (IEC 62439-3 clause 5.3): its source, and its sequence number, modulo 65536.
-#[derive(Clone, Copy, Debug, PartialEq, Eq)]
+#[derive(Clone, Copy, PartialEq, Eq)]
 pub struct Key {
     pub src: Mac,
     pub seq: u16,
@@ -26,7 +26,7 @@ impl Model for Key {
 }
 
 /// A frame that passed, and the moment at which it did, in microseconds.
-#[derive(Clone, Copy, Debug, PartialEq, Eq)]
+#[derive(Clone, Copy, PartialEq, Eq)]
 pub struct Note {
     pub key: Key,
     pub moment: u64,

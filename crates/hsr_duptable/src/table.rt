@@ -16,7 +16,7 @@ use std::marker::Model;
 ///
 /// A clause sees the list of its notes, the oldest first. Only `new` takes memory. The notes lie in `C` buckets, and a
 /// frame is sought in its own bucket alone.
-#[derive(Debug, Drop)]
+#[derive(Drop)]
 pub struct DupTable<const C: usize> {
     ring: HeapCircularBuffer<Entry>,
     // for each bucket the serial of its youngest note

@@ -12,7 +12,7 @@ use hsr_plan_text::{What, read};
 use std::alloc::Global;
 
 /// Why a text tells no addresses.
-#[derive(Clone, Copy, Debug, PartialEq, Eq)]
+#[derive(Clone, Copy, PartialEq, Eq)]
 pub enum ExpectedFault {
     /// It is no plan.
     NoPlan,

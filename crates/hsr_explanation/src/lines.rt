@@ -8,7 +8,7 @@ use hsr_toml::put_shown;
 use std::alloc::Global;
 
 /// What is explained: the words of each line.
-#[derive(Debug, Drop)]
+#[derive(Drop)]
 pub struct Explanation {
     pub lines: Vec<Vec<u8>>,
 }

@@ -8,7 +8,7 @@ ghost use Rattle.hsr_faults.specs.Sets.{IsTaken, IsWithin, Meet};
 const WORDS: usize = 4;
 
 /// A set of channels, by their numbers, which are below 256: a bit for each.
-#[derive(Clone, Copy, Debug, PartialEq, Eq)]
+#[derive(Clone, Copy, PartialEq, Eq)]
 pub(crate) struct Channels {
     pub(crate) words: [u64; WORDS],
 }

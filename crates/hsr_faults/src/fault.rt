@@ -5,14 +5,14 @@ ghost use Rattle.hsr_faults.specs.Fault.{has_end_at, is_link_off, is_link_off_by
 use hsr_topology::End;
 
 /// A link or a node that is off from the start, by its number. With a node all its links are down.
-#[derive(Clone, Copy, Debug, PartialEq, Eq)]
+#[derive(Clone, Copy, PartialEq, Eq)]
 pub enum Off {
     Link(usize),
     Node(usize),
 }
 
 /// What is off: one link or node, or two of them.
-#[derive(Clone, Copy, Debug, PartialEq, Eq)]
+#[derive(Clone, Copy, PartialEq, Eq)]
 pub enum Fault {
     One(Off),
     Two(Off, Off),

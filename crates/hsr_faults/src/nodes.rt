@@ -4,7 +4,7 @@ ghost use Rattle.hsr_bitset.specs.Numbers.{has_bit};
 
 // 64 is the number of nodes that a topology has at most.
 /// A set of nodes, by their numbers, of which there are 64 at most.
-#[derive(Clone, Copy, Debug, PartialEq, Eq)]
+#[derive(Clone, Copy, PartialEq, Eq)]
 pub struct Nodes {
     bits: u64,
 }

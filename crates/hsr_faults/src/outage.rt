@@ -21,7 +21,7 @@ use hsr_topology::{End, Topology};
 use std::alloc::Global;
 
 /// Sends of one node that are cut off from the same nodes, and how many they are.
-#[derive(Clone, Copy, Debug, PartialEq, Eq)]
+#[derive(Clone, Copy, PartialEq, Eq)]
 pub struct Cut {
     pub sender: usize,
     pub nodes: Nodes,
@@ -29,7 +29,7 @@ pub struct Cut {
 }
 
 /// What a fault cuts off, in the order of the first sends that are cut off so; and how many sends in all.
-#[derive(Debug, Drop)]
+#[derive(Drop)]
 pub struct Outage {
     pub fault: Fault,
     pub cuts: Vec<Cut>,

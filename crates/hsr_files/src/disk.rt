@@ -9,14 +9,14 @@ use std::fs::{self, File, Files};
 use std::io::{self, ErrorKind, Write};
 
 /// A file that is put: its name, and what it holds.
-#[derive(Clone, Copy, Debug, PartialEq, Eq)]
+#[derive(Clone, Copy, PartialEq, Eq)]
 pub struct NewFile<'a> {
     pub name: &'a str,
     pub octets: &'a [u8],
 }
 
 /// Why a file wasn't put.
-#[derive(Clone, Copy, Debug, PartialEq, Eq)]
+#[derive(Clone, Copy, PartialEq, Eq)]
 pub enum PutFault {
     /// The folder isn't there, or the file can't be written in it.
     Unwritten,

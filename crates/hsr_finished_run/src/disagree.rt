@@ -5,7 +5,7 @@ ghost use Rattle.hsr_finished_run.specs.Disagree.{disagree_code};
 use hsr_link::Dir;
 
 /// The first thing in which the parts of a run don't agree, in the order in which they are looked at.
-#[derive(Clone, Copy, Debug, PartialEq, Eq)]
+#[derive(Clone, Copy, PartialEq, Eq)]
 pub enum Disagree {
     /// Duplicate tables have no entries or over 65535, or records or rows aren't the topology's by their number or
     /// indices, or something came by a port without a link.
@@ -23,7 +23,7 @@ pub enum Disagree {
 }
 
 /// Why a run isn't closed.
-#[derive(Clone, Copy, Debug, PartialEq, Eq)]
+#[derive(Clone, Copy, PartialEq, Eq)]
 pub enum CheckFault {
     /// Its parts don't agree.
     Disagree(Disagree),

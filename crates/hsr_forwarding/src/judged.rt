@@ -6,7 +6,7 @@ ghost use Rattle.hsr_forwarding.specs.Tables.{copies_of, counted_with, judged_as
 use hsr_frame::{Cause, Counters, Exits, Wants};
 
 /// Which egresses an arrival passed, and why it went there or nowhere.
-#[derive(Clone, Copy, Debug, PartialEq, Eq)]
+#[derive(Clone, Copy, PartialEq, Eq)]
 pub struct Judged {
     pub passes: Exits,
     pub cause: Cause,

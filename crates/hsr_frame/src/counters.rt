@@ -5,7 +5,7 @@ ghost use Rattle.hsr_frame.specs.Counters.{AreWithin, counted, dropped, no_count
 use crate::node::Cause;
 
 /// How often each thing happened at a node.
-#[derive(Clone, Copy, Debug, PartialEq, Eq)]
+#[derive(Clone, Copy, PartialEq, Eq)]
 pub struct Counters {
     /// Sends that were accepted.
     pub sent: u64,

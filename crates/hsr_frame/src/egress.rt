@@ -7,7 +7,7 @@ use crate::mac::Mac;
 use crate::node::Cause;
 
 /// A set of egresses: up, and ports. `c` is port C of a QuadBox, or a RedBox's interlink.
-#[derive(Clone, Copy, Debug, PartialEq, Eq)]
+#[derive(Clone, Copy, PartialEq, Eq)]
 pub struct Exits {
     // Fields and no list: passing, noting and counting go by field, and each egress asks its table once.
     pub up: bool,
@@ -51,7 +51,7 @@ impl Exits {
 }
 
 /// The egresses that want a frame, and the cause where none does.
-#[derive(Clone, Copy, Debug, PartialEq, Eq)]
+#[derive(Clone, Copy, PartialEq, Eq)]
 pub struct Wants {
     pub exits: Exits,
     pub cause: Cause,

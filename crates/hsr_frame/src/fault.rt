@@ -50,7 +50,7 @@ impl FrameFault {
 }
 
 /// Why a node refuses to send, in the order in which the reasons are tried.
-#[derive(Clone, Copy, Debug, PartialEq, Eq)]
+#[derive(Clone, Copy, PartialEq, Eq)]
 pub enum SendFault {
     /// The destination is the sender.
     SelfAddressed,
@@ -77,11 +77,11 @@ impl SendFault {
 }
 
 /// A node has accepted as many sends, supervisions and arrivals as it may: 2^62.
-#[derive(Clone, Copy, Debug, PartialEq, Eq)]
+#[derive(Clone, Copy, PartialEq, Eq)]
 pub struct Spent;
 
 /// A growth was refused: the allocator gave no memory. What stands then is told by each call that gives this.
-#[derive(Clone, Copy, Debug, PartialEq, Eq)]
+#[derive(Clone, Copy, PartialEq, Eq)]
 pub struct NoMemory;
 
 // Two errors of the allocator are one fault here, so that `?` hands either on.

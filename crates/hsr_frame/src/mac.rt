@@ -7,7 +7,7 @@ use std::fmt;
 use std::marker::Model;
 
 /// The address of a station, or of a group of them (IEEE 802 clause 8): six octets.
-#[derive(Clone, Copy, Debug, Default, PartialEq, Eq, PartialOrd, Ord, Hash)]
+#[derive(Clone, Copy, Default, PartialEq, Eq, PartialOrd, Ord, Hash)]
 pub struct Mac {
     octets: [u8; 6],
 }

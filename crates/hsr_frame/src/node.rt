@@ -3,7 +3,7 @@ use crate::fault::FrameFault;
 use crate::mac::Mac;
 
 /// Which frames a node forwards round the ring (IEC 62439-3 clause 5.3.2).
-#[derive(Clone, Copy, Debug, PartialEq, Eq)]
+#[derive(Clone, Copy, PartialEq, Eq)]
 pub enum Mode {
     /// Every frame but its own, one to itself alone, and, of a RedBox, one to a known station.
     H,
@@ -14,14 +14,14 @@ pub enum Mode {
 }
 
 /// A port on the ring.
-#[derive(Clone, Copy, Debug, PartialEq, Eq)]
+#[derive(Clone, Copy, PartialEq, Eq)]
 pub enum RingPort {
     A,
     B,
 }
 
 /// Why an arrival went where it did.
-#[derive(Clone, Copy, Debug, PartialEq, Eq)]
+#[derive(Clone, Copy, PartialEq, Eq)]
 pub enum Cause {
     /// At least one egress passed it.
     Passed,
@@ -42,14 +42,14 @@ pub enum Cause {
 }
 
 /// The numbers of a supervision frame: that of its tag, and how many the node sent before, modulo 65536.
-#[derive(Clone, Copy, Debug, PartialEq, Eq)]
+#[derive(Clone, Copy, PartialEq, Eq)]
 pub struct Life {
     pub seq: u16,
     pub life: u16,
 }
 
 /// The node that a supervision frame is about (IEC 62439-3 clause 5.7).
-#[derive(Clone, Copy, Debug, PartialEq, Eq)]
+#[derive(Clone, Copy, PartialEq, Eq)]
 pub enum About {
     /// The node itself.
     Own,

@@ -39,7 +39,7 @@ impl<'a> Model for Copy<'a> {
 }
 
 /// A frame with no HSR tag: its addresses and its type.
-#[derive(Clone, Copy, Debug, PartialEq, Eq)]
+#[derive(Clone, Copy, PartialEq, Eq)]
 pub struct Untagged {
     pub dst: Mac,
     pub src: Mac,
@@ -48,7 +48,7 @@ pub struct Untagged {
 }
 
 /// What a packet is that is no copy of a tagged frame.
-#[derive(Clone, Copy, Debug, PartialEq, Eq)]
+#[derive(Clone, Copy, PartialEq, Eq)]
 pub enum NoCopy {
     /// So few of its octets were captured that its type or its tag isn't whole.
     Unread,

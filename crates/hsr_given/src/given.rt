@@ -6,7 +6,7 @@ ghost use Rattle.hsr_given.specs.Given.{begins, ends_key, given_at, given_from, 
 use std::fmt;
 
 /// A text that is no transcript, and that another program knows.
-#[derive(Clone, Copy, Debug, PartialEq, Eq)]
+#[derive(Clone, Copy, PartialEq, Eq)]
 pub enum Given {
     /// It is compressed by gzip.
     Gzip,

@@ -6,7 +6,7 @@ use crate::given::{Given, begins, given_of};
 use std::fmt;
 
 /// What was given in place of the scenario from which a run came.
-#[derive(Clone, Copy, Debug, PartialEq, Eq)]
+#[derive(Clone, Copy, PartialEq, Eq)]
 pub enum Unnamed {
     /// A file that can't be read.
     NoFile,

@@ -8,7 +8,7 @@ use hsr_frame::NoMemory;
 use std::alloc::Global;
 
 /// A number, and how often it is there.
-#[derive(Clone, Copy, Debug, PartialEq, Eq)]
+#[derive(Clone, Copy, PartialEq, Eq)]
 pub(crate) struct KeyCount {
     pub(crate) key: u64,
     pub(crate) count: u64,

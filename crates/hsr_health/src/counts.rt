@@ -21,7 +21,7 @@ use hsr_spread::{Amounts, Spread, Told};
 use std::alloc::Global;
 
 /// How many frames had each fate, once for each point that saw them.
-#[derive(Clone, Copy, Debug, Default, PartialEq, Eq)]
+#[derive(Clone, Copy, Default, PartialEq, Eq)]
 pub struct Fates {
     pub twice: u64,
     pub once: u64,
@@ -46,7 +46,7 @@ impl Fates {
 }
 
 /// What is counted of a source.
-#[derive(Clone, Copy, Debug, Default)]
+#[derive(Clone, Copy, Default)]
 pub struct Counts {
     pub frames: u64,
     /// The numbers of its first and its last frame.

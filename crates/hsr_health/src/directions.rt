@@ -20,7 +20,7 @@ use hsr_taps::DIRECTIONS;
 use std::alloc::Global;
 
 /// What is told of a point.
-#[derive(Clone, Copy, Debug, Default)]
+#[derive(Clone, Copy, Default)]
 pub struct PointNumbers {
     pub frames: u64,
     /// Whether its directions carried group frames by both ways.
@@ -29,7 +29,7 @@ pub struct PointNumbers {
 }
 
 /// What is told of a direction.
-#[derive(Clone, Copy, Debug, Default)]
+#[derive(Clone, Copy, Default)]
 pub struct DirectionNumbers {
     /// Copies of frames that it had carried before, and the most copies of a frame.
     pub again: u64,

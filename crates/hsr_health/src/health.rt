@@ -27,7 +27,7 @@ use hsr_taps::Tapped;
 use std::alloc::{AllocError, AllocFailed, Global};
 
 /// Why nothing is told of a capture.
-#[derive(Clone, Copy, Debug, PartialEq, Eq)]
+#[derive(Clone, Copy, PartialEq, Eq)]
 pub enum HealthFault {
     /// There are over 1024 sources.
     Sources,

@@ -12,7 +12,7 @@ use hsr_taps::Stray;
 use std::alloc::Global;
 
 /// Packets without a tag, of one EtherType at one interface.
-#[derive(Clone, Copy, Debug, PartialEq, Eq)]
+#[derive(Clone, Copy, PartialEq, Eq)]
 pub struct UntaggedKind {
     pub interface: usize,
     pub ethertype: u16,
@@ -22,7 +22,7 @@ pub struct UntaggedKind {
 }
 
 /// Packets that are no frames, of one fault at one interface. The order of ranks is that of the faults' words.
-#[derive(Clone, Copy, Debug, PartialEq, Eq)]
+#[derive(Clone, Copy, PartialEq, Eq)]
 pub struct MalformedKind {
     pub interface: usize,
     pub rank: u8,
@@ -30,7 +30,7 @@ pub struct MalformedKind {
 }
 
 /// Frames with one VLAN tag, or with none.
-#[derive(Clone, Copy, Debug, PartialEq, Eq)]
+#[derive(Clone, Copy, PartialEq, Eq)]
 pub struct VlanKind {
     pub control: Option<u16>,
     pub frames: u64,

@@ -17,7 +17,7 @@ use hsr_number_runs::{Gap, InRun, Numbered, Restart, Runs, RunsSoFar, elsewhere_
 use std::alloc::Global;
 
 /// How many gaps a group's numbers have, how many numbers are missing, and how often they began anew.
-#[derive(Clone, Copy, Debug, Default, PartialEq, Eq)]
+#[derive(Clone, Copy, Default, PartialEq, Eq)]
 pub struct GroupNumbers {
     pub gaps: u64,
     pub missing: u64,

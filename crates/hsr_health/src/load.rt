@@ -9,7 +9,7 @@ use std::alloc::Global;
 
 /// How much came at an interface, in bits on the wire: of the whole time, and the most in a millisecond and in a second that begin with
 /// a packet.
-#[derive(Clone, Copy, Debug, Default, PartialEq, Eq)]
+#[derive(Clone, Copy, Default, PartialEq, Eq)]
 pub struct Load {
     pub all: u64,
     pub in_1ms: u64,
@@ -17,7 +17,7 @@ pub struct Load {
 }
 
 /// A packet's moment, and its bits on the wire.
-#[derive(Clone, Copy, Debug, PartialEq, Eq)]
+#[derive(Clone, Copy, PartialEq, Eq)]
 struct Weighed {
     at: u64,
     bits: u64,

@@ -11,7 +11,7 @@ use hsr_number_runs::Restart;
 use std::alloc::Global;
 
 /// What decides the order of reasons, beside the table.
-#[derive(Clone, Copy, Debug)]
+#[derive(Clone, Copy)]
 pub(crate) struct Facts {
     /// Most copies have another lane than their direction.
     pub(crate) lane_is_common: bool,

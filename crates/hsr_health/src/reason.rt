@@ -4,7 +4,7 @@ ghost use Rattle.std.specs.Prelude.{◌≡◌, ◌++◌, ◌∷◌, [], option_t
 use hsr_frame::{FrameFault, Mac, NoMemory};
 
 /// The word of a reason, in the order of the table of reasons.
-#[derive(Clone, Copy, Debug, PartialEq, Eq)]
+#[derive(Clone, Copy, PartialEq, Eq)]
 pub enum Word {
     Empty,
     Unjudged,
@@ -29,14 +29,14 @@ pub enum Word {
 }
 
 /// Where a reason first holds: which of the file's packets, from 1, and its moment in nanoseconds since 1970.
-#[derive(Clone, Copy, Debug, PartialEq, Eq)]
+#[derive(Clone, Copy, PartialEq, Eq)]
 pub struct Spot {
     pub packet: u32,
     pub at: u64,
 }
 
 /// What is told of the first that a reason counts. Times are nanoseconds.
-#[derive(Clone, Copy, Debug)]
+#[derive(Clone, Copy)]
 pub enum What {
     /// There is no tagged frame.
     NoFrame,
@@ -130,7 +130,7 @@ pub enum What {
 }
 
 /// A reason for doubt: how many it counts, and where it first holds, if that is a packet.
-#[derive(Clone, Copy, Debug)]
+#[derive(Clone, Copy)]
 pub struct Reason {
     pub word: Word,
     pub count: u64,

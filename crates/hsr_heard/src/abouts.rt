@@ -14,7 +14,7 @@ use hsr_supervision::SupKind;
 use std::alloc::Global;
 
 /// Whom supervision tells of. Moments are nanoseconds since 1970.
-#[derive(Clone, Copy, Debug)]
+#[derive(Clone, Copy)]
 pub struct About {
     pub mac: Mac,
     /// What the last frame says, and who sent it.
@@ -33,7 +33,7 @@ pub struct About {
 }
 
 /// A time of over 5 s in which supervision told nothing of an address.
-#[derive(Clone, Copy, Debug)]
+#[derive(Clone, Copy)]
 pub struct Silence {
     pub mac: Mac,
     /// The index of the copy before it; none where the capture begins with it.

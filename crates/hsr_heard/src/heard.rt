@@ -13,7 +13,7 @@ use hsr_supervision::{SupFault, Supervision};
 use std::alloc::Global;
 
 /// A copy of a supervision frame, with what it says: who sent it, its index among the copies, its moment in nanoseconds since 1970, and its way.
-#[derive(Clone, Copy, Debug)]
+#[derive(Clone, Copy)]
 pub struct Heard {
     pub said: Supervision,
     pub source: Mac,

@@ -16,7 +16,7 @@ use std::alloc::Global;
 use std::marker::Model;
 
 /// A field in which an observed copy differs from the expected one, with what was expected and what was seen.
-#[derive(Clone, Copy, Debug, PartialEq, Eq)]
+#[derive(Clone, Copy, PartialEq, Eq)]
 pub enum Difference {
     Source(Mac, Mac),
     Vlan(Option<u16>, Option<u16>),

@@ -16,7 +16,7 @@ use hsr_tap_device::{Device, Down, End, Ignored};
 use std::alloc::Global;
 
 /// What became of an observed copy.
-#[derive(Clone, Copy, Debug, PartialEq, Eq)]
+#[derive(Clone, Copy, PartialEq, Eq)]
 pub enum ObservedFate {
     Same,
     Late,
@@ -30,7 +30,7 @@ pub enum ObservedFate {
 }
 
 /// What became of an expected copy.
-#[derive(Clone, Copy, Debug, PartialEq, Eq)]
+#[derive(Clone, Copy, PartialEq, Eq)]
 pub enum ExpectedFate {
     /// An observed copy was matched with it.
     Matched,

@@ -12,7 +12,7 @@ use hsr_tap_device::Times;
 use std::alloc::Global;
 
 /// How an observed copy was matched.
-#[derive(Clone, Copy, Debug, PartialEq, Eq)]
+#[derive(Clone, Copy, PartialEq, Eq)]
 pub enum Word {
     /// It says the same, in time.
     Same,
@@ -23,7 +23,7 @@ pub enum Word {
 }
 
 /// The expected copy that an observed one was matched with, by its index.
-#[derive(Clone, Copy, Debug, PartialEq, Eq)]
+#[derive(Clone, Copy, PartialEq, Eq)]
 pub struct Got {
     pub expected: usize,
     pub word: Word,

@@ -14,7 +14,7 @@ use hsr_tag::{EitherView, FrameView, SeenView, TaggedView, look_at};
 const FORGET: u64 = 400_000;
 
 /// What the reference said of a frame, and the index of the passage by which it came.
-#[derive(Clone, Copy, Debug, PartialEq, Eq)]
+#[derive(Clone, Copy, PartialEq, Eq)]
 pub struct Reason {
     pub said: Said,
     pub passage: usize,

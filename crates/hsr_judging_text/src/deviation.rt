@@ -14,14 +14,14 @@ use hsr_playback::{Expected, Passage};
 use std::alloc::Global;
 
 /// The copy that deviates, by its index.
-#[derive(Clone, Copy, Debug, PartialEq, Eq)]
+#[derive(Clone, Copy, PartialEq, Eq)]
 pub(crate) enum Which {
     Expected(usize),
     Observed(usize),
 }
 
 /// How a copy deviates, the gravest first: a second copy feeds a storm, a stray one the least.
-#[derive(Clone, Copy, Debug, PartialEq, Eq)]
+#[derive(Clone, Copy, PartialEq, Eq)]
 pub(crate) enum Word {
     Twice,
     Missing,
@@ -31,7 +31,7 @@ pub(crate) enum Word {
 }
 
 /// A copy that deviates: when, in microseconds, of which packet, and how.
-#[derive(Clone, Copy, Debug, PartialEq, Eq)]
+#[derive(Clone, Copy, PartialEq, Eq)]
 pub(crate) struct Deviation {
     pub at: u64,
     pub packet: u32,

@@ -20,7 +20,7 @@ use hsr_text::put;
 use std::alloc::Global;
 
 /// Why a device can't be judged by a capture.
-#[derive(Debug, Drop)]
+#[derive(Drop)]
 pub enum JudgeFault {
     /// The capture doesn't fit what is said of the device.
     Passages(PassageFault),

@@ -17,7 +17,7 @@ use hsr_text::{put, put_count, put_number};
 use std::alloc::Global;
 
 /// How many copies of each fate there are.
-#[derive(Clone, Copy, Debug, PartialEq, Eq)]
+#[derive(Clone, Copy, PartialEq, Eq)]
 pub(crate) struct Counts {
     pub expected: u64,
     pub seen: u64,

@@ -24,7 +24,7 @@ use hsr_toml::put_shown;
 use std::alloc::Global;
 
 /// What is shown of a judgement.
-#[derive(Clone, Copy, Debug, PartialEq, Eq)]
+#[derive(Clone, Copy, PartialEq, Eq)]
 pub struct Showing {
     /// How many deviations are told.
     pub list: usize,

@@ -177,7 +177,7 @@ pub(crate) fn put_values(
 // ---- what need not agree
 
 /// What need not agree.
-#[derive(Clone, Copy, Debug, PartialEq, Eq)]
+#[derive(Clone, Copy, PartialEq, Eq)]
 pub(crate) enum Ignoring {
     Path,
     Padding,

@@ -14,7 +14,7 @@ use indexmap::IndexMap;
 use std::alloc::Global;
 
 /// A send, and the number of the group that it is of.
-#[derive(Clone, Copy, Debug, PartialEq, Eq)]
+#[derive(Clone, Copy, PartialEq, Eq)]
 pub struct Member {
     pub send: Probe,
     pub group: usize,

@@ -7,7 +7,7 @@ use crate::delay::Delay;
 
 /// How long sends took to a node: how many arrivals went up there, the one of these that took longest, and the one that took longest
 /// of the arrivals of a send of which another copy went up there. Of equals it is that of the lowest send.
-#[derive(Clone, Copy, Debug, PartialEq, Eq)]
+#[derive(Clone, Copy, PartialEq, Eq)]
 pub struct NodeLatency {
     pub node: usize,
     pub frames: usize,
@@ -16,7 +16,7 @@ pub struct NodeLatency {
 }
 
 /// The latencies of a run's nodes, by node. A node where nothing went up has none.
-#[derive(Debug, Drop)]
+#[derive(Drop)]
 pub struct Latency {
     pub nodes: Vec<NodeLatency>,
 }

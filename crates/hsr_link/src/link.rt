@@ -13,7 +13,7 @@ use std::marker::Model;
 /// A link between two ports. In each direction a bounded number of copies may wait, and each copy has a row.
 ///
 /// A clause sees its rows, whether it is cut, and its capacity.
-#[derive(Debug, Drop)]
+#[derive(Drop)]
 pub struct Link {
     capacity: usize,
     is_cut: bool,
@@ -169,7 +169,7 @@ impl Link {
 /// What a link is but its rows: the copies that wait in each direction, how many may, and whether it is cut.
 /// A world that is closed hands its rows over, and keeps this to join them again if the run is refused: so no row is
 /// copied.
-#[derive(Debug, Drop)]
+#[derive(Drop)]
 pub struct Queues {
     capacity: usize,
     is_cut: bool,

@@ -12,7 +12,7 @@ use hsr_frame::NoMemory;
 use hsr_node::Carried;
 
 /// The index of a row, and the copy that a take gives, so that it needs no memory.
-#[derive(Debug, Drop)]
+#[derive(Drop)]
 pub(crate) struct Waiting {
     pub(crate) index: usize,
     pub(crate) carried: Carried,

@@ -6,7 +6,7 @@ use hsr_frame::NoMemory;
 use hsr_node::Carried;
 
 /// A direction of a link.
-#[derive(Clone, Copy, Debug, PartialEq, Eq)]
+#[derive(Clone, Copy, PartialEq, Eq)]
 pub enum Dir {
     /// From the first end to the second.
     Forth,
@@ -15,7 +15,7 @@ pub enum Dir {
 }
 
 /// What became of a copy.
-#[derive(Clone, Copy, Debug, PartialEq, Eq)]
+#[derive(Clone, Copy, PartialEq, Eq)]
 pub enum Fate {
     /// It waits to be taken.
     Queued,
@@ -31,7 +31,7 @@ pub enum Fate {
 
 /// One copy that was put or injected, and what became of it.
 /// `injected` says that no port sent it.
-#[derive(Clone, Debug, Drop, PartialEq, Eq)]
+#[derive(Clone, Drop, PartialEq, Eq)]
 pub struct Row {
     pub dir: Dir,
     pub carried: Carried,

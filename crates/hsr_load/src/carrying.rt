@@ -20,7 +20,7 @@ use std::alloc::Global;
 use std::marker::Model;
 
 /// What a channel carried: the ends from which and to which its copies go, and these copies, in the order of their rows.
-#[derive(Debug, Drop)]
+#[derive(Drop)]
 pub struct Channel {
     pub from: End,
     pub to: End,

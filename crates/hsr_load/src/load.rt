@@ -8,7 +8,7 @@ use hsr_topology::End;
 /// What a channel carried: the ends from which and to which its copies go; how many copies, and their octets on the wire; in
 /// kbit/s, rounded down, the mean over the time from the run's first copy to its last, a millisecond at least, and the most in a
 /// millisecond that begins with a copy; and the first moment in microseconds at which such a millisecond begins.
-#[derive(Clone, Copy, Debug, PartialEq, Eq)]
+#[derive(Clone, Copy, PartialEq, Eq)]
 pub struct ChannelLoad {
     pub from: End,
     pub to: End,
@@ -20,7 +20,7 @@ pub struct ChannelLoad {
 }
 
 /// The loads of a run's channels, by links, forth before back. A channel that carried nothing has none.
-#[derive(Debug, Drop)]
+#[derive(Drop)]
 pub struct Load {
     pub channels: Vec<ChannelLoad>,
 }

@@ -6,7 +6,7 @@ ghost use Rattle.hsr_load.specs.Windows.{octets_of};
 use hsr_frame::NoMemory;
 
 /// A copy that a channel carried: the effective moment of the entry that passed it, in microseconds, and its octets on the wire.
-#[derive(Clone, Copy, Debug, PartialEq, Eq)]
+#[derive(Clone, Copy, PartialEq, Eq)]
 pub struct Transit {
     pub moment: u64,
     pub octets: u64,

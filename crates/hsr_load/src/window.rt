@@ -13,7 +13,7 @@ use std::alloc::Global;
 const MILLISECOND: u64 = 1000;
 
 /// The octets of the copies that go in a millisecond, and the moment at which it begins.
-#[derive(Clone, Copy, Debug, PartialEq, Eq)]
+#[derive(Clone, Copy, PartialEq, Eq)]
 pub struct Window {
     pub octets: u64,
     pub at: u64,

@@ -10,7 +10,7 @@ use hsr_timeline::put_letter;
 use hsr_topology::End;
 
 /// What a report calls nodes, entries and ports: their numbers, or their names.
-#[derive(Debug, Drop)]
+#[derive(Drop)]
 pub enum Naming {
     Numbers,
     Names(Names),

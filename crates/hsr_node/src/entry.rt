@@ -4,7 +4,7 @@ ghost use Rattle.std.specs.Prelude.{◌≡◌, ◌↔◌, IsTrue};
 use crate::event::{Event, Outcome};
 
 /// An event in a node's record: who brought it, the moment as it was given, in microseconds, and what the node answered.
-#[derive(Clone, Debug, Drop, PartialEq, Eq)]
+#[derive(Clone, Drop, PartialEq, Eq)]
 pub struct Entry {
     pub worker: u16,
     pub at: u64,
@@ -13,7 +13,7 @@ pub struct Entry {
 }
 
 /// An entry, and where it stands: the number of the node, and the place in its record.
-#[derive(Clone, Debug, Drop, PartialEq, Eq)]
+#[derive(Clone, Drop, PartialEq, Eq)]
 pub struct Receipt {
     pub node: usize,
     pub place: usize,

@@ -6,7 +6,7 @@ use hsr_frame::{About, Cause, Mac, NoMemory, SendFault};
 use hsr_tag::Spelled;
 
 /// Names the entry of a send: the number of its node, and its place in that node's record.
-#[derive(Clone, Copy, Debug, PartialEq, Eq)]
+#[derive(Clone, Copy, PartialEq, Eq)]
 pub struct Probe {
     pub node: usize,
     pub place: usize,
@@ -14,14 +14,14 @@ pub struct Probe {
 
 /// A copy on its way: the send that it is of, if it is of one, and its octets, from the destination on. No verdict
 /// depends on the probe.
-#[derive(Clone, Debug, Drop, PartialEq, Eq)]
+#[derive(Clone, Drop, PartialEq, Eq)]
 pub struct Carried {
     pub probe: Option<Probe>,
     pub octets: Octets,
 }
 
 /// What happens to a node.
-#[derive(Clone, Debug, Drop, PartialEq, Eq)]
+#[derive(Clone, Drop, PartialEq, Eq)]
 pub enum Event {
     /// It sends a frame of its own, of the type `kind`, with the control information of a VLAN tag if there is one;
     /// `from` is the place of the source among a Station's addresses, else 0.
@@ -76,7 +76,7 @@ impl Event {
 }
 
 /// What a node answers; `ports` are those by which a frame leaves, in the order of their numbers.
-#[derive(Clone, Copy, Debug, PartialEq, Eq)]
+#[derive(Clone, Copy, PartialEq, Eq)]
 pub enum Outcome {
     /// A frame was sent, with this number if it got one.
     Sent {
@@ -117,7 +117,7 @@ impl Outcome {
 }
 
 /// Why a node refuses an event, in the order in which the reasons are tried.
-#[derive(Clone, Copy, Debug, PartialEq, Eq)]
+#[derive(Clone, Copy, PartialEq, Eq)]
 pub enum StepFault {
     /// The event doesn't fit the kind of node, its ports or its addresses.
     WrongEvent,

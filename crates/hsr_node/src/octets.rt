@@ -9,7 +9,7 @@ use std::marker::Model;
 use std::sync::ArcSlice;
 
 /// Where octets stand: in room of their own, or in room that all copies of them share.
-#[derive(Debug, Drop)]
+#[derive(Drop)]
 enum Room {
     Own(Vec<u8>),
     Shared(ArcSlice<u8>),
@@ -17,7 +17,6 @@ enum Room {
 
 /// Octets of a payload or of a copy on its way, of any number. A clone of octets that came from a slice or a frame takes no
 /// room of its own.
-#[derive(Debug)]
 pub struct Octets {
     room: Room,
 }

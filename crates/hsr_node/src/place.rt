@@ -6,7 +6,7 @@ use hsr_frame::{Mac, Mode, NoMemory};
 
 /// A kind of node, with its addresses (IEC 62439-3 clause 5). The ports have numbers: A is 0 and B is 1; a RedBox has
 /// its interlink 2, a QuadBox has C 2 and D 3, and a Station has the one port 0.
-#[derive(Clone, Debug, Drop, PartialEq, Eq)]
+#[derive(Clone, Drop, PartialEq, Eq)]
 pub enum Place {
     /// A doubly attached node.
     Danh { mac: Mac, mode: Mode },

@@ -7,7 +7,7 @@ ghost use Rattle.hsr_node.specs.declared.place.Place.{Place};
 use crate::place::Place;
 
 /// What a place is, without its addresses.
-#[derive(Clone, Copy, Debug, PartialEq, Eq)]
+#[derive(Clone, Copy, PartialEq, Eq)]
 pub enum Role {
     Danh,
     RedBox,

@@ -6,7 +6,7 @@ use crate::place::Place;
 use hsr_frame::RingPort;
 
 /// What a port leads to: a ring, as one of its two ports there, or stations that know no HSR.
-#[derive(Clone, Copy, Debug, PartialEq, Eq)]
+#[derive(Clone, Copy, PartialEq, Eq)]
 pub(crate) enum Side {
     Ring(RingPort),
     Edge,

@@ -4,7 +4,7 @@ use hsr_node::Octets;
 use std::alloc::AllocFailed;
 
 /// Why there are no lines.
-#[derive(Debug, Drop)]
+#[derive(Drop)]
 pub enum LinesFault {
     /// The device is no DANH.
     Role,

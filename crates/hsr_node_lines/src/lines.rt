@@ -38,7 +38,7 @@ impl Model for Scene {
 }
 
 /// The lines of a capture, and how many packets at the device's ends gave none.
-#[derive(Debug, Drop)]
+#[derive(Drop)]
 pub struct Lines {
     pub text: Vec<u8>,
     pub skipped: u64,

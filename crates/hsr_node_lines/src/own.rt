@@ -9,7 +9,7 @@ use hsr_node::{Octets, plain_octets};
 use std::alloc::Global;
 
 /// The device, as far as its own sends are looked for.
-#[derive(Clone, Copy, Debug, PartialEq, Eq)]
+#[derive(Clone, Copy, PartialEq, Eq)]
 pub(crate) struct Danh {
     pub(crate) mac: Mac,
     /// Whether all that the host sends is in the capture.
@@ -19,7 +19,7 @@ pub(crate) struct Danh {
 }
 
 /// A supervision frame that the host handed down, and when, in microseconds.
-#[derive(Debug, Drop)]
+#[derive(Drop)]
 pub(crate) struct Handed {
     pub(crate) at: u64,
     pub(crate) octets: Octets,

@@ -8,7 +8,7 @@ use hsr_frame_copies::{Copy, NoCopy, copy_of};
 use hsr_tap_device::{End, Passing, Tap};
 
 /// A packet at an end of the device: it goes in, or it leaves.
-#[derive(Clone, Copy, Debug, PartialEq, Eq)]
+#[derive(Clone, Copy, PartialEq, Eq)]
 pub(crate) struct Passage {
     pub(crate) end: End,
     pub(crate) is_in: bool,

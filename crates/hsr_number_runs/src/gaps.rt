@@ -7,7 +7,7 @@ use hsr_frame::NoMemory;
 use std::alloc::Global;
 
 /// Numbers of a run that never came, all those between two that did. It is told at the copy behind it.
-#[derive(Clone, Copy, Debug, PartialEq, Eq)]
+#[derive(Clone, Copy, PartialEq, Eq)]
 pub struct Gap {
     pub group: u32,
     /// Who sent the number behind it.

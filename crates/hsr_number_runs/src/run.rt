@@ -24,7 +24,7 @@ const ROUND: u64 = 65536;
 const BLOCK: u64 = 8;
 
 /// A number that came: of which group, who in it sent it, when, and by which copy.
-#[derive(Clone, Copy, Debug, PartialEq, Eq)]
+#[derive(Clone, Copy, PartialEq, Eq)]
 pub struct Numbered {
     pub at: u64,
     pub group: u32,
@@ -34,7 +34,7 @@ pub struct Numbered {
 }
 
 /// A number in a run: extended, it counts on where numbers begin anew, from 65536 on. It takes 32 octets of room.
-#[derive(Clone, Copy, Debug, PartialEq, Eq)]
+#[derive(Clone, Copy, PartialEq, Eq)]
 pub struct InRun {
     pub extended: u64,
     pub at: u64,
@@ -45,7 +45,7 @@ pub struct InRun {
 }
 
 /// A number that began a new run of its group, behind the greatest number of the run before.
-#[derive(Clone, Copy, Debug, PartialEq, Eq)]
+#[derive(Clone, Copy, PartialEq, Eq)]
 pub struct Restart {
     pub group: u32,
     pub sender: u32,

@@ -7,7 +7,7 @@ use hsr_table_size::TableSize;
 use hsr_text::TimeUnit;
 
 /// The parts that a report has before its last line, each where it is asked for, in this order.
-#[derive(Clone, Copy, Debug, PartialEq, Eq)]
+#[derive(Clone, Copy, PartialEq, Eq)]
 pub struct Asked {
     /// A line for each direction of a link that carried a copy, and the one with the most in a millisecond.
     pub load: bool,
@@ -42,7 +42,7 @@ impl Asked {
 }
 
 /// Which runs an audit may certify.
-#[derive(Clone, Copy, Debug, PartialEq, Eq)]
+#[derive(Clone, Copy, PartialEq, Eq)]
 pub enum Scope {
     /// Those of one ring of DANHs.
     Ring,
@@ -51,7 +51,7 @@ pub enum Scope {
 }
 
 /// What is written of a finished run.
-#[derive(Clone, Copy, Debug, PartialEq, Eq)]
+#[derive(Clone, Copy, PartialEq, Eq)]
 pub enum Form {
     /// Its transcript.
     Transcript,
@@ -60,7 +60,7 @@ pub enum Form {
 }
 
 /// What is shown of a finished run: which audit its last line and the status are of, and what is written.
-#[derive(Clone, Copy, Debug, PartialEq, Eq)]
+#[derive(Clone, Copy, PartialEq, Eq)]
 pub struct Showing {
     pub scope: Scope,
     pub form: Form,
@@ -85,7 +85,7 @@ impl Showing {
 }
 
 /// Which size of tables an audit takes.
-#[derive(Clone, Copy, Debug, PartialEq, Eq)]
+#[derive(Clone, Copy, PartialEq, Eq)]
 pub enum TableChoice {
     /// This one.
     Given(TableSize),
@@ -94,7 +94,7 @@ pub enum TableChoice {
 }
 
 /// The node that `node` runs. No group has its address. Address and mode say nothing of a QuadBox.
-#[derive(Clone, Copy, Debug, PartialEq, Eq)]
+#[derive(Clone, Copy, PartialEq, Eq)]
 pub struct NodeOptions {
     pub role: NodeRole,
     pub mac: Mac,
@@ -106,7 +106,7 @@ pub struct NodeOptions {
 }
 
 /// What to do. Paths are those of the words that choose it.
-#[derive(Clone, Copy, Debug, PartialEq, Eq)]
+#[derive(Clone, Copy, PartialEq, Eq)]
 pub enum Options<'a> {
     /// Answer lines as one node.
     Node(NodeOptions),

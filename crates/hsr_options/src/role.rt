@@ -1,7 +1,7 @@
 //! The kinds of node that `node` may be.
 
 /// The kind of node that answers lines, which has ports on a ring (IEC 62439-3 clause 5).
-#[derive(Clone, Copy, Debug, PartialEq, Eq)]
+#[derive(Clone, Copy, PartialEq, Eq)]
 pub enum NodeRole {
     /// A doubly attached node.
     Danh,

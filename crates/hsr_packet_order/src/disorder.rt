@@ -5,7 +5,7 @@ ghost use Rattle.hsr_packet_order.specs.Disorder.{disorder_of, with_one};
 use hsr_capture_reader::Packet;
 
 /// How many packets of a file have an earlier stamp than one before them, and by how many nanoseconds at most.
-#[derive(Clone, Copy, Debug, PartialEq, Eq)]
+#[derive(Clone, Copy, PartialEq, Eq)]
 pub struct Disorder {
     pub packets: usize,
     pub most: u64,

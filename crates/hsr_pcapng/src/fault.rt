@@ -3,7 +3,7 @@ use hsr_frame::NoMemory;
 use std::alloc::AllocError;
 
 /// Why a block can't be written.
-#[derive(Clone, Copy, Debug, PartialEq, Eq)]
+#[derive(Clone, Copy, PartialEq, Eq)]
 pub enum BlockFault {
     /// The value of an option has over 65535 octets, or a block 2^32 octets or more.
     TooLong,

@@ -8,7 +8,7 @@ use hsr_scenario::Order;
 use hsr_world_steps::Step;
 
 /// Why something is sent.
-#[derive(Clone, Copy, Debug, PartialEq, Eq)]
+#[derive(Clone, Copy, PartialEq, Eq)]
 pub(crate) enum Cause {
     /// It is a frame of the stream of that number.
     Stream(usize),
@@ -17,7 +17,7 @@ pub(crate) enum Cause {
 }
 
 /// Where an order comes from that sends: the number of the node that does, when, in microseconds, and why.
-#[derive(Clone, Copy, Debug, PartialEq, Eq)]
+#[derive(Clone, Copy, PartialEq, Eq)]
 pub(crate) struct Origin {
     pub node: usize,
     pub at: u64,

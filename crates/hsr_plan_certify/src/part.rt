@@ -11,7 +11,7 @@ use hsr_routes::is_in_h_or_u;
 use hsr_topology::End;
 
 /// A part of a plan, by its number: a stream, a node, or the mode of a node.
-#[derive(Clone, Copy, Debug, PartialEq, Eq)]
+#[derive(Clone, Copy, PartialEq, Eq)]
 pub(crate) enum Part {
     Stream(usize),
     Node(usize),

@@ -2,7 +2,7 @@
 use hsr_plan_outages::AtOnce;
 
 /// What is asked of a plan, beside the size of tables: in which orders, and which links and nodes are taken to be off.
-#[derive(Clone, Copy, Debug, PartialEq, Eq)]
+#[derive(Clone, Copy, PartialEq, Eq)]
 pub struct Question {
     /// Only those orders are meant in which a copy is under way for less than so many microseconds, if it is said.
     pub within: Option<u64>,

@@ -94,7 +94,7 @@ fn verdict_on(
 }
 
 /// The verdict on a plan, and its line with a line feed, as `hsr_plan certify` prints it.
-#[derive(Debug, Drop)]
+#[derive(Drop)]
 pub struct Certification {
     pub verdict: Verdict,
     pub line: Vec<u8>,

@@ -19,7 +19,7 @@ use std::marker::Model;
 
 /// A copy that was put: its link and direction, its row there, how many copies were put before it, when it begins to go over its channel,
 /// and when the channel is free behind it. Moments are microseconds.
-#[derive(Clone, Copy, Debug, PartialEq, Eq)]
+#[derive(Clone, Copy, PartialEq, Eq)]
 pub(crate) struct Flight {
     pub(crate) link: usize,
     pub(crate) dir: Dir,
@@ -31,7 +31,7 @@ pub(crate) struct Flight {
 
 /// The end of a copy's way: its link and direction, how many copies were put before it, and the moment at which it is taken and judged,
 /// in microseconds.
-#[derive(Clone, Copy, Debug, PartialEq, Eq)]
+#[derive(Clone, Copy, PartialEq, Eq)]
 pub(crate) struct Arrival {
     pub(crate) link: usize,
     pub(crate) dir: Dir,

@@ -7,7 +7,7 @@ use hsr_topology::End;
 use hsr_world_steps::Step;
 
 /// What is due behind a step.
-#[derive(Clone, Copy, Debug, PartialEq, Eq)]
+#[derive(Clone, Copy, PartialEq, Eq)]
 pub(crate) enum Due {
     Nothing,
     /// At this port.

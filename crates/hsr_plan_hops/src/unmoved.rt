@@ -6,7 +6,7 @@ use hsr_plan_text::PlanFault;
 use std::alloc::{AllocError, AllocFailed};
 
 /// Why a plan means nothing.
-#[derive(Debug, Drop)]
+#[derive(Drop)]
 pub enum Unmoved {
     /// The plan itself means nothing.
     Plan(PlanFault),

@@ -14,7 +14,7 @@ use hsr_timeline::Hop;
 use hsr_wire::wire_octets;
 
 /// What is known of a link: from when on each direction is free, and whether all copies so far were judged in time.
-#[derive(Clone, Copy, Debug, PartialEq, Eq)]
+#[derive(Clone, Copy, PartialEq, Eq)]
 pub(crate) struct Course {
     link: usize,
     forth: u64,

@@ -10,7 +10,7 @@ use std::alloc::Global;
 use std::marker::Model;
 
 /// A node with its name, its kind, and the names of the stations that a Station is.
-#[derive(Debug, Drop)]
+#[derive(Drop)]
 pub struct Node {
     pub name: Word,
     pub place: Place,

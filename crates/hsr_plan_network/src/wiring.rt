@@ -19,7 +19,7 @@ use std::alloc::Global;
 use std::marker::Model;
 
 /// The nodes of a plan, and the topology that they and its links are.
-#[derive(Debug, Drop)]
+#[derive(Drop)]
 pub struct Wired {
     pub nodes: Vec<Node>,
     pub topology: Topology,

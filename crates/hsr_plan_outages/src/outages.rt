@@ -14,7 +14,7 @@ use hsr_topology::{End, Topology};
 use std::alloc::Global;
 
 /// How many links or nodes are off at once.
-#[derive(Clone, Copy, Debug, PartialEq, Eq)]
+#[derive(Clone, Copy, PartialEq, Eq)]
 pub enum AtOnce {
     /// One alone.
     One,

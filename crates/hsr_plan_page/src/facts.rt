@@ -15,7 +15,7 @@ pub struct Verdict<'a> {
 
 /// What was counted of the plan's run: its sends, how many of them are complete, how many entries its tables needed, the longest that a
 /// send took to a receiver, in microseconds, and the most that a direction of a link carried in its worst millisecond, in kbit/s.
-#[derive(Clone, Copy, Debug, PartialEq, Eq)]
+#[derive(Clone, Copy, PartialEq, Eq)]
 pub struct Tally {
     pub sends: usize,
     pub complete: usize,
@@ -27,7 +27,7 @@ pub struct Tally {
 /// A stream: its name, its senders, whom it is for, what it sends and how often, all in words; the nodes that send it; how many sends it had
 /// and how many of these are complete; the nodes that need it and missed a send; and the longest that a send took, in microseconds, if one
 /// was taken up.
-#[derive(Debug, Drop)]
+#[derive(Drop)]
 pub struct StreamRow {
     pub name: Vec<u8>,
     pub from: Vec<u8>,
@@ -42,7 +42,7 @@ pub struct StreamRow {
 
 /// What is cut off where a link or a node is off: what is off, in words, and the number of the link or the node; how many sends are cut off
 /// from a node, in some order of their copies; of these, for each node, how many from it; and who is cut off from whom, in words.
-#[derive(Debug, Drop)]
+#[derive(Drop)]
 pub struct OutageRow {
     pub off: Vec<u8>,
     pub link: Option<usize>,
@@ -53,7 +53,7 @@ pub struct OutageRow {
 }
 
 /// What was counted of a run of a sweep, and how many of its sends were missed by a node that needs them, and taken up twice by one.
-#[derive(Clone, Copy, Debug, PartialEq, Eq)]
+#[derive(Clone, Copy, PartialEq, Eq)]
 pub struct Counts {
     pub tally: Tally,
     pub missed: usize,
@@ -62,7 +62,7 @@ pub struct Counts {
 
 /// What came of a run in which a link or a node is off: what is off, in words, and its number; what was counted; and the budget and what
 /// was found, in words.
-#[derive(Debug, Drop)]
+#[derive(Drop)]
 pub struct CaseRow {
     pub off: Vec<u8>,
     pub link: Option<usize>,
@@ -73,7 +73,7 @@ pub struct CaseRow {
 }
 
 /// An event of the plan: its moment in microseconds, and what happens, in words.
-#[derive(Debug, Drop)]
+#[derive(Drop)]
 pub struct EventRow {
     pub at: u64,
     pub what: Vec<u8>,

@@ -25,7 +25,7 @@ impl<'a> Model for Publisher<'a> {
 
 /// A frame of GOOSE: timeAllowedtoLive in milliseconds, the moment since which its state is there in microseconds since 1970, the
 /// number of the state, and of the frame since it began, both from 0.
-#[derive(Clone, Copy, Debug, PartialEq, Eq)]
+#[derive(Clone, Copy, PartialEq, Eq)]
 pub struct GooseFrame {
     pub live: usize,
     pub since: usize,
@@ -35,7 +35,7 @@ pub struct GooseFrame {
 
 /// A frame of sampled values: how many samples there are a second where that is said, how many are in each frame, and the number of
 /// the frame since the start, from 0.
-#[derive(Clone, Copy, Debug, PartialEq, Eq)]
+#[derive(Clone, Copy, PartialEq, Eq)]
 pub struct SampledFrame {
     pub rate: Option<usize>,
     pub asdus: usize,

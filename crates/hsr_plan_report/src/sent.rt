@@ -7,7 +7,7 @@ use hsr_plan_sweep::{Outcome, stream_at};
 use std::alloc::Global;
 
 /// How many sends count at a row, and how many of these are complete.
-#[derive(Clone, Copy, Debug, Default, PartialEq, Eq)]
+#[derive(Clone, Copy, Default, PartialEq, Eq)]
 pub(crate) struct Sent {
     pub(crate) sends: usize,
     pub(crate) complete: usize,

@@ -22,7 +22,7 @@ use hsr_scenario::{ScenarioFault, TEXT_LIMIT, What as ScenarioWhat, read, read_n
 use std::alloc::Global;
 
 /// Why there is no scenario of a plan.
-#[derive(Debug, Drop)]
+#[derive(Drop)]
 pub enum Trouble {
     /// The text is no plan, or means nothing.
     Plan(PlanFault),

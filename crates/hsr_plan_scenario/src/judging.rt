@@ -24,7 +24,7 @@ use std::io::{self, Read, Write};
 const TABLE: usize = 512;
 
 /// Why octets are no scenario that can be played to its end.
-#[derive(Debug, Drop)]
+#[derive(Drop)]
 pub enum Wrong {
     /// They are none, or an order is refused: the line that says it, or `NoMemory` where an allocation failed.
     Told(Line),

@@ -19,7 +19,7 @@ use std::alloc::Global;
 use std::io::{self, Read, Write};
 
 /// How it ended.
-#[derive(Clone, Copy, Debug, PartialEq, Eq)]
+#[derive(Clone, Copy, PartialEq, Eq)]
 pub enum Ending {
     /// What was asked for was written, or a scenario is right.
     Planned,

@@ -26,7 +26,7 @@ use std::marker::Model;
 /// What a plan means: its nodes with their names, the topology, the most sends that may be under way at once, how many copies wait in each
 /// direction of a link, and the orders; the names of the plan's streams, and of each frame that the orders send, in their order, the number
 /// of its stream.
-#[derive(Debug, Drop)]
+#[derive(Drop)]
 pub struct Meaning {
     pub nodes: Vec<Node>,
     pub topology: Topology,

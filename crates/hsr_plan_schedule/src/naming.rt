@@ -8,7 +8,7 @@ use hsr_text::{put, put_number};
 use std::alloc::Global;
 
 /// How many there are of each kind: streams, or senders of these.
-#[derive(Clone, Copy, Debug, PartialEq, Eq)]
+#[derive(Clone, Copy, PartialEq, Eq)]
 pub(crate) struct Counts {
     goose: u64,
     sampled: u64,

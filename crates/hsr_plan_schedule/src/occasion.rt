@@ -4,7 +4,7 @@ ghost use Rattle.std.specs.Prelude.{◌≡◌};
 use hsr_frame::Mac;
 
 /// Who sends: a node, by its number, from the address at an index among its own.
-#[derive(Clone, Copy, Debug, PartialEq, Eq)]
+#[derive(Clone, Copy, PartialEq, Eq)]
 pub struct Sender {
     pub node: usize,
     pub from: u8,
@@ -13,7 +13,7 @@ pub struct Sender {
 
 /// A frame of a stream: the stream's number, the index of its sender among the stream's, the sender, the destination, the number
 /// of the start that it follows, and how many were sent since.
-#[derive(Clone, Copy, Debug, PartialEq, Eq)]
+#[derive(Clone, Copy, PartialEq, Eq)]
 pub struct Sent {
     pub stream: usize,
     pub index: usize,
@@ -55,7 +55,7 @@ impl Sent {
 }
 
 /// What happens.
-#[derive(Clone, Copy, Debug, PartialEq, Eq)]
+#[derive(Clone, Copy, PartialEq, Eq)]
 pub enum Happening {
     Cut { link: usize },
     Mend { link: usize },
@@ -66,7 +66,7 @@ pub enum Happening {
 }
 
 /// What happens at a moment, in microseconds.
-#[derive(Clone, Copy, Debug, PartialEq, Eq)]
+#[derive(Clone, Copy, PartialEq, Eq)]
 pub struct Occasion {
     pub at: u64,
     pub what: Happening,

@@ -29,14 +29,14 @@ const PAYLOAD_LIMIT: usize = 1500;
 const GAP_LIMIT: u64 = 1 << 40;
 
 /// How many streams there are, and how many senders they have.
-#[derive(Clone, Copy, Debug, PartialEq, Eq)]
+#[derive(Clone, Copy, PartialEq, Eq)]
 pub(crate) struct Counted {
     streams: Counts,
     senders: Counts,
 }
 
 /// What a stream publishes, and what is counted with it.
-#[derive(Debug, Drop)]
+#[derive(Drop)]
 struct NextPublication {
     publication: Publication,
     counted: Counted,

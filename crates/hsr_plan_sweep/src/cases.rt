@@ -10,7 +10,7 @@ use hsr_topology::Topology;
 use std::alloc::Global;
 
 /// What is off in a run.
-#[derive(Clone, Copy, Debug, PartialEq, Eq)]
+#[derive(Clone, Copy, PartialEq, Eq)]
 pub enum Case {
     Undisturbed,
     Off(Fault),

@@ -19,7 +19,7 @@ use std::alloc::Global;
 /// one; how many entries the duplicate tables needed, and what was spent of them; the longest that a send took, in microseconds; the most
 /// load of a channel, in kbit/s of its worst millisecond; what the audit of networks found; and the first send that was missed, with the
 /// first node that did.
-#[derive(Clone, Copy, Debug, PartialEq, Eq)]
+#[derive(Clone, Copy, PartialEq, Eq)]
 pub struct Count {
     pub sends: usize,
     pub complete: usize,
@@ -34,14 +34,14 @@ pub struct Count {
 }
 
 /// A send, and a node that missed it.
-#[derive(Clone, Copy, Debug, PartialEq, Eq)]
+#[derive(Clone, Copy, PartialEq, Eq)]
 pub struct Miss {
     pub send: Probe,
     pub node: usize,
 }
 
 /// What became of a send: one at which it was due missed it, one took it up twice, and one took it up at which it wasn't due at all.
-#[derive(Clone, Copy, Debug, PartialEq, Eq)]
+#[derive(Clone, Copy, PartialEq, Eq)]
 pub struct Outcome {
     pub missed: bool,
     pub twice: bool,

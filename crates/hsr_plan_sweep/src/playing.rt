@@ -21,7 +21,7 @@ use std::thread::Threads;
 const AT_ONCE: usize = 64;
 
 /// What is off in a run, and what is counted of it.
-#[derive(Clone, Copy, Debug, PartialEq, Eq)]
+#[derive(Clone, Copy, PartialEq, Eq)]
 pub struct Played {
     pub case: Case,
     pub count: Count,

@@ -7,7 +7,7 @@ use std::alloc::Global;
 use std::io::Write;
 
 /// How many runs there are, and whether that is shown.
-#[derive(Clone, Copy, Debug, PartialEq, Eq)]
+#[derive(Clone, Copy, PartialEq, Eq)]
 pub(crate) struct Progress {
     pub(crate) is_shown: bool,
     pub(crate) runs: usize,

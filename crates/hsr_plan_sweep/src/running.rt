@@ -19,7 +19,7 @@ use std::alloc::Global;
 const TABLE: usize = 512;
 
 /// Why nothing is counted.
-#[derive(Debug, Drop)]
+#[derive(Drop)]
 pub(crate) enum Trouble {
     /// The plan means nothing.
     Plan(PlanTrouble),

@@ -9,7 +9,7 @@ use hsr_world_steps::Step;
 use std::alloc::Global;
 
 /// What is sent by an order: the number of the node, and that of the stream where it is a frame of one.
-#[derive(Clone, Copy, Debug, PartialEq, Eq)]
+#[derive(Clone, Copy, PartialEq, Eq)]
 pub(crate) struct Sending {
     pub node: usize,
     pub stream: Option<usize>,

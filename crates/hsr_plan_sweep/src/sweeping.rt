@@ -163,7 +163,7 @@ fn plays_or_line<T: Threads + Sync, E: Write>(
 }
 
 /// What a sweep played: what the plan means, and what is counted of each case, of the undisturbed one last.
-#[derive(Debug, Drop)]
+#[derive(Drop)]
 pub struct SweptPlan {
     pub meaning: Meaning,
     pub plays: Vec<Played>,

@@ -9,7 +9,7 @@ use hsr_toml::TableKey;
 use std::alloc::AllocFailed;
 
 /// A key of a plan's tables.
-#[derive(Clone, Copy, Debug, PartialEq, Eq)]
+#[derive(Clone, Copy, PartialEq, Eq)]
 pub enum Key {
     Title,
     Ring,
@@ -146,7 +146,7 @@ impl Key {
 }
 
 /// Where a fault is.
-#[derive(Clone, Copy, Debug, PartialEq, Eq)]
+#[derive(Clone, Copy, PartialEq, Eq)]
 pub enum Spot {
     /// In the plan itself.
     Top,
@@ -157,7 +157,7 @@ pub enum Spot {
 }
 
 /// Why what a plan says means nothing.
-#[derive(Debug, Drop)]
+#[derive(Drop)]
 pub enum Refusal {
     /// A name stands twice where it may stand once, or a node's in more than two rings.
     NameTwice(Word),
@@ -198,7 +198,7 @@ pub enum Refusal {
 }
 
 /// What a fault is. `Unknown` is tried before all keys of its table; at one key the others are tried in this order.
-#[derive(Debug, Drop)]
+#[derive(Drop)]
 pub enum What {
     /// The text has over 16 MiB, or is no TOML.
     Text,
@@ -219,7 +219,7 @@ pub enum What {
 }
 
 /// The first fault of a text.
-#[derive(Debug, Drop)]
+#[derive(Drop)]
 pub struct PlanFault {
     pub spot: Spot,
     pub what: What,

@@ -7,7 +7,7 @@ use hsr_frame::{Mac, Mode};
 use std::marker::Model;
 
 /// The nodes of a ring, in their order round it, each by its name.
-#[derive(Debug, Drop)]
+#[derive(Drop)]
 pub struct Ring {
     pub nodes: Vec<Word>,
 }
@@ -21,7 +21,7 @@ impl Model for Ring {
 }
 
 /// A RedBox with the stations behind it, by their names.
-#[derive(Debug, Drop)]
+#[derive(Drop)]
 pub struct Behind {
     pub redbox: Word,
     pub stations: Vec<Word>,
@@ -36,21 +36,21 @@ impl Model for Behind {
 }
 
 /// The address that a node or a station has in place of its default.
-#[derive(Debug, Drop)]
+#[derive(Drop)]
 pub struct Addressed {
     pub name: Word,
     pub mac: Mac,
 }
 
 /// The mode that a node has in place of mode H.
-#[derive(Debug, Drop)]
+#[derive(Drop)]
 pub struct InMode {
     pub name: Word,
     pub mode: Mode,
 }
 
 /// Which nodes there are: rings, the stations behind RedBoxes, addresses and modes.
-#[derive(Debug, Drop)]
+#[derive(Drop)]
 pub struct Network {
     pub rings: Vec<Ring>,
     pub redboxes: Vec<Behind>,
@@ -67,7 +67,7 @@ impl Model for Network {
 }
 
 /// When a node judges what comes by a wire.
-#[derive(Clone, Copy, Debug, PartialEq, Eq)]
+#[derive(Clone, Copy, PartialEq, Eq)]
 pub enum Switching {
     /// Once a frame is there as a whole.
     Store,
@@ -76,7 +76,7 @@ pub enum Switching {
 }
 
 /// The wires of a plan: how many Mbit/s they carry, how many microseconds a node keeps a frame, and when it judges it.
-#[derive(Clone, Copy, Debug, PartialEq, Eq)]
+#[derive(Clone, Copy, PartialEq, Eq)]
 pub struct Wire {
     pub rate: u64,
     pub residence: u64,
@@ -84,7 +84,7 @@ pub struct Wire {
 }
 
 /// How long copies take from node to node.
-#[derive(Clone, Copy, Debug, PartialEq, Eq)]
+#[derive(Clone, Copy, PartialEq, Eq)]
 pub enum Transfer {
     /// Each is taken and judged this number of microseconds after it was put.
     Hop(u64),
@@ -93,7 +93,7 @@ pub enum Transfer {
 }
 
 /// How copies move.
-#[derive(Clone, Copy, Debug, PartialEq, Eq)]
+#[derive(Clone, Copy, PartialEq, Eq)]
 pub enum Moves {
     /// All are at their end before the next send.
     EachSendDrains,
@@ -104,14 +104,14 @@ pub enum Moves {
 }
 
 /// Whom a stream is for.
-#[derive(Debug, Drop)]
+#[derive(Drop)]
 pub enum Target {
     Named(Word),
     Address(Mac),
 }
 
 /// What a stream's frames have in them.
-#[derive(Clone, Copy, Debug, PartialEq, Eq)]
+#[derive(Clone, Copy, PartialEq, Eq)]
 pub enum Kind {
     /// GOOSE (IEC 61850-8-1), with counting stNum and sqNum.
     Goose,
@@ -123,7 +123,7 @@ pub enum Kind {
 
 /// By what receivers know a stream of GOOSE or sampled values, as far as it is said: the APPID of its first sender, the names of
 /// the control block and the data set in each sender, and goID or svID.
-#[derive(Debug, Drop)]
+#[derive(Drop)]
 pub struct Naming {
     pub appid: Option<u64>,
     pub control_block: Option<Word>,
@@ -133,7 +133,7 @@ pub struct Naming {
 
 /// What each frame of a stream has alike: its target, its kind, its size in octets of payload, the control information of
 /// its VLAN tag, and its names.
-#[derive(Debug, Drop)]
+#[derive(Drop)]
 pub struct Framing {
     pub target: Target,
     pub kind: Kind,
@@ -143,7 +143,7 @@ pub struct Framing {
 }
 
 /// How many samples there are a second: 80 a period of 50 or 60 Hz, 256 a period of 50 Hz, and 240 a period of 60 Hz, as IEC 61869-9 has it.
-#[derive(Clone, Copy, Debug, PartialEq, Eq)]
+#[derive(Clone, Copy, PartialEq, Eq)]
 pub enum SampleRate {
     Rate4000,
     Rate4800,
@@ -168,7 +168,7 @@ impl SampleRate {
 }
 
 /// How a stream's frames follow each other from a start on.
-#[derive(Clone, Copy, Debug, PartialEq, Eq)]
+#[derive(Clone, Copy, PartialEq, Eq)]
 pub enum Pace {
     /// By gaps in microseconds: the first, by how much a gap is longer than the one before, and the longest.
     Gaps { every: u64, grow: u64, most: u64 },
@@ -178,7 +178,7 @@ pub enum Pace {
 
 /// When a stream's frames are sent, in microseconds: from each start on, at what pace, how many samples each has, and how many
 /// frames are sent from each start on, or up to when.
-#[derive(Debug, Drop)]
+#[derive(Drop)]
 pub struct Timing {
     pub starts: Vec<u64>,
     pub pace: Pace,
@@ -198,7 +198,7 @@ impl Model for Timing {
 /// Frames that each of some nodes sends again and again.
 /// `from` are the senders, each of which sends all frames; `receivers` are those who need them, and none where they are for all
 /// that they are due at.
-#[derive(Debug, Drop)]
+#[derive(Drop)]
 pub struct Stream {
     pub from: Vec<Word>,
     pub receivers: Vec<Word>,
@@ -215,14 +215,14 @@ impl Model for Stream {
 }
 
 /// An end of a link: a node by its name, and the letter of its port where that is said.
-#[derive(Debug, Drop)]
+#[derive(Drop)]
 pub struct LinkEnd {
     pub name: Word,
     pub letter: Option<u8>,
 }
 
 /// What happens to a link or a node.
-#[derive(Debug, Drop)]
+#[derive(Drop)]
 pub enum Deed {
     Cut { first: LinkEnd, second: LinkEnd },
     Mend { first: LinkEnd, second: LinkEnd },
@@ -232,14 +232,14 @@ pub enum Deed {
 }
 
 /// What happens at a moment, in microseconds.
-#[derive(Debug, Drop)]
+#[derive(Drop)]
 pub struct Event {
     pub at: u64,
     pub deed: Deed,
 }
 
 /// What a plan says besides its streams and events.
-#[derive(Debug, Drop)]
+#[derive(Drop)]
 pub struct Outline {
     pub title: Option<String>,
     /// How many copies wait in each direction of a link, where that is said.
@@ -265,7 +265,7 @@ impl Model for Outline {
 }
 
 /// What a text says as a plan.
-#[derive(Debug, Drop)]
+#[derive(Drop)]
 pub struct Plan {
     pub outline: Outline,
     pub streams: Vec<Stream>,

@@ -7,7 +7,7 @@ use std::alloc::Global;
 use std::marker::Model;
 
 /// A word of a plan: the name of a node, or a key.
-#[derive(Debug, Drop)]
+#[derive(Drop)]
 pub struct Word {
     octets: Vec<u8>,
 }

@@ -14,7 +14,7 @@ use std::alloc::Global;
 use std::marker::Model;
 
 /// A copy that the reference lets out.
-#[derive(Debug, Drop)]
+#[derive(Drop)]
 pub struct Expected {
     pub out: End,
     /// When what caused it passed, in nanoseconds since the capture began.

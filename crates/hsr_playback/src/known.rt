@@ -17,7 +17,7 @@ use std::alloc::Global;
 const FORGET: u64 = 400_000;
 
 /// A frame that a RedBox numbered: when, its source, the number that the device gave it and that which the reference did.
-#[derive(Clone, Copy, Debug)]
+#[derive(Clone, Copy)]
 pub(crate) struct Given {
     pub at: u64,
     pub source: Mac,

@@ -7,7 +7,7 @@ use hsr_node::Octets;
 use hsr_tap_device::End;
 
 /// Which way a packet passed an end.
-#[derive(Clone, Copy, Debug, PartialEq, Eq)]
+#[derive(Clone, Copy, PartialEq, Eq)]
 pub enum Heading {
     /// It went into the device.
     In,
@@ -16,7 +16,7 @@ pub enum Heading {
 }
 
 /// A packet that passed an end of the device.
-#[derive(Debug, Drop)]
+#[derive(Drop)]
 pub struct Passage {
     /// Nanoseconds since the capture began.
     pub moment: u64,

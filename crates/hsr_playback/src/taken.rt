@@ -6,7 +6,7 @@ use hsr_frame::NoMemory;
 use std::alloc::Global;
 
 /// The number of a frame's first observed copy, and its supervision number, where there were such copies.
-#[derive(Clone, Copy, Debug, Default, PartialEq, Eq)]
+#[derive(Clone, Copy, Default, PartialEq, Eq)]
 pub struct Taken {
     pub number: Option<u16>,
     pub life: Option<u16>,
@@ -14,7 +14,7 @@ pub struct Taken {
 
 /// A number that isn't the next after the last one that was observed: the next one, and that which was seen; the same of supervision
 /// numbers.
-#[derive(Clone, Copy, Debug, Default, PartialEq, Eq)]
+#[derive(Clone, Copy, Default, PartialEq, Eq)]
 pub struct Jump {
     pub number: Option<(u16, u16)>,
     pub life: Option<(u16, u16)>,

@@ -7,7 +7,7 @@ ghost use Rattle.hsr_playback.specs.Letting.{has_in, has_out};
 use hsr_tap_device::End;
 
 /// Of each end, whether what goes in there is captured, and what leaves by it.
-#[derive(Clone, Copy, Debug, PartialEq, Eq)]
+#[derive(Clone, Copy, PartialEq, Eq)]
 pub struct Taps {
     ins: [bool; 6],
     outs: [bool; 6],

@@ -12,7 +12,7 @@ use std::alloc::Global;
 use std::marker::Model;
 
 /// Which of the ports A, B, C and D an arrival left by, in this order, and why.
-#[derive(Clone, Copy, Debug, PartialEq, Eq)]
+#[derive(Clone, Copy, PartialEq, Eq)]
 pub struct QuadVerdict {
     pub out: [bool; 4],
     pub cause: Cause,

@@ -7,7 +7,7 @@ use hsr_frame::{Cause, Exits, FrameFault, Wants};
 use hsr_tag::{EitherView, SeenView};
 
 /// A port of a QuadBox (IEC 62439-3 clause 5): A and B are in one ring, C and D in the other.
-#[derive(Clone, Copy, Debug, PartialEq, Eq)]
+#[derive(Clone, Copy, PartialEq, Eq)]
 pub enum QuadPort {
     A,
     B,

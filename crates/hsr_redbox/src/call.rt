@@ -2,7 +2,7 @@
 use hsr_frame::Cause;
 
 /// A port of a RedBox: two on the ring, and the interlink.
-#[derive(Clone, Copy, Debug, PartialEq, Eq)]
+#[derive(Clone, Copy, PartialEq, Eq)]
 pub enum BoxPort {
     A,
     B,
@@ -11,7 +11,7 @@ pub enum BoxPort {
 
 /// By which ports a frame of the RedBox's own left, and its number, if it got one: with the path 0 on A and 1 on
 /// B, and with no tag on the interlink.
-#[derive(Clone, Copy, Debug, PartialEq, Eq)]
+#[derive(Clone, Copy, PartialEq, Eq)]
 pub struct BoxSent {
     pub seq: Option<u16>,
     pub a: bool,
@@ -20,7 +20,7 @@ pub struct BoxSent {
 }
 
 /// Where an arrival passed, and why; `seq` is the number that the RedBox gave it, if it did.
-#[derive(Clone, Copy, Debug, PartialEq, Eq)]
+#[derive(Clone, Copy, PartialEq, Eq)]
 pub struct BoxVerdict {
     pub up: bool,
     pub a: bool,
@@ -31,7 +31,7 @@ pub struct BoxVerdict {
 }
 
 /// Why a supervision is refused, in the order in which the reasons are tried.
-#[derive(Clone, Copy, Debug, PartialEq, Eq)]
+#[derive(Clone, Copy, PartialEq, Eq)]
 pub enum LifeFault {
     /// It is about an address that isn't known on the interlink.
     NotProxied,

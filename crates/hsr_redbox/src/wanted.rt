@@ -9,7 +9,7 @@ use hsr_tag::{EitherView, FrameView, SeenView};
 
 /// What is done with a frame that passes without a look: which egresses want it, and for which source it gets a
 /// number, if it does.
-#[derive(Clone, Copy, Debug, PartialEq, Eq)]
+#[derive(Clone, Copy, PartialEq, Eq)]
 pub struct Handling {
     pub wants: Wants,
     pub source: Option<Mac>,

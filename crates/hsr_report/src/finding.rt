@@ -14,7 +14,7 @@ use hsr_text::{put, put_count};
 use std::alloc::Global;
 
 /// What an audit of a run found: how many sends are certified, or the first doubt.
-#[derive(Clone, Copy, Debug, PartialEq, Eq)]
+#[derive(Clone, Copy, PartialEq, Eq)]
 pub enum Finding {
     Certified(usize),
     Doubt(Doubt),

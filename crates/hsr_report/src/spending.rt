@@ -11,7 +11,7 @@ use hsr_text::{put, put_count, put_number};
 use std::alloc::Global;
 
 /// What a run spent of its tables.
-#[derive(Clone, Copy, Debug, PartialEq, Eq)]
+#[derive(Clone, Copy, PartialEq, Eq)]
 pub enum Spending {
     /// It is within budget, with this number of sends at most in 800 milliseconds.
     Within(usize),

@@ -15,7 +15,7 @@ use std::alloc::Global;
 
 /// Why orders lead to no finished run.
 /// Orders are counted from 0.
-#[derive(Clone, Copy, Debug, PartialEq, Eq)]
+#[derive(Clone, Copy, PartialEq, Eq)]
 pub enum Unfinished {
     /// The order with this index is refused, and not because an allocation failed.
     Step(usize, DrainFault),

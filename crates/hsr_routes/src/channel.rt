@@ -6,7 +6,7 @@ use hsr_link::Dir;
 use std::marker::Model;
 
 /// A direction of a link, by the link's number.
-#[derive(Clone, Copy, Debug, PartialEq, Eq)]
+#[derive(Clone, Copy, PartialEq, Eq)]
 pub struct Channel {
     pub link: usize,
     pub dir: Dir,

@@ -2,7 +2,7 @@
 use hsr_frame::Mac;
 
 /// The node that sends a frame, and the frame's destination and EtherType: its routes go by nothing else.
-#[derive(Clone, Copy, Debug, PartialEq, Eq)]
+#[derive(Clone, Copy, PartialEq, Eq)]
 pub struct Heading {
     pub sender: usize,
     pub dst: Mac,

@@ -17,7 +17,7 @@ use std::alloc::Global;
 // The derived order goes by the fields as they stand, so their order is that of time.
 /// An entry of a finished run, by node and place, with its stamp: its moment in microseconds, and its step within that moment, the
 /// length of the longest chain of entries that lead to it there.
-#[derive(Clone, Copy, Debug, PartialEq, Eq, PartialOrd, Ord)]
+#[derive(Clone, Copy, PartialEq, Eq, PartialOrd, Ord)]
 pub struct Stamped {
     pub moment: u64,
     pub step: u64,

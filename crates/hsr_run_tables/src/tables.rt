@@ -17,7 +17,7 @@ use std::alloc::Global;
 
 /// The tables of a run, each as the text of a file: records of comma-separated values, each ended by a line feed, the first of
 /// which names the columns (RFC 4180). REFERENCE has the columns and their units.
-#[derive(Debug, Drop)]
+#[derive(Drop)]
 pub struct RunTables {
     /// A row for each node, with its counters.
     pub nodes: Vec<u8>,

@@ -20,7 +20,7 @@ use std::alloc::Global;
 use std::sync::Wait;
 
 /// How the main worker's steps went.
-#[derive(Clone, Copy, Debug, PartialEq, Eq)]
+#[derive(Clone, Copy, PartialEq, Eq)]
 pub(crate) enum Conducted {
     /// All were done, and no copy is on its way.
     All,

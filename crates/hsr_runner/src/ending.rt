@@ -2,7 +2,7 @@
 use hsr_node::StepFault;
 
 /// How a worker or an ager ended.
-#[derive(Clone, Copy, Debug, PartialEq, Eq)]
+#[derive(Clone, Copy, PartialEq, Eq)]
 pub(crate) enum Ending {
     /// It was told to stop.
     Stopped,

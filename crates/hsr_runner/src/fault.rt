@@ -3,7 +3,7 @@ use hsr_finished_run::Disagree;
 use hsr_world_steps::WorldFault;
 
 /// Why a scenario has no run in threads, in the order in which the reasons are tried.
-#[derive(Clone, Copy, Debug, PartialEq, Eq)]
+#[derive(Clone, Copy, PartialEq, Eq)]
 pub enum RunFault {
     /// The step with this index, counted from 0, is a Put, Take or Judge: no thread was started.
     FineStep { step: usize },

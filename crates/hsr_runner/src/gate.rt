@@ -27,7 +27,7 @@ pub trait Gate: Sync {
 
 /// A gate that is always open.
 /// It is that of the program: only tests hold threads back.
-#[derive(Clone, Copy, Debug)]
+#[derive(Clone, Copy)]
 pub struct OpenGate;
 
 impl Gate for OpenGate {

@@ -9,7 +9,7 @@ use hsr_topology::Topology;
 use std::alloc::Global;
 
 /// What a thread does at its node.
-#[derive(Clone, Copy, Debug, PartialEq, Eq)]
+#[derive(Clone, Copy, PartialEq, Eq)]
 pub(crate) enum Task {
     /// It judges what comes to a port, which leads there.
     Judge { port: u8, wire: Wire },
@@ -18,7 +18,7 @@ pub(crate) enum Task {
 }
 
 /// A thread: the number of its worker and of its node, and what it does there.
-#[derive(Clone, Copy, Debug, PartialEq, Eq)]
+#[derive(Clone, Copy, PartialEq, Eq)]
 pub(crate) struct Role {
     pub(crate) worker: u16,
     pub(crate) node: usize,

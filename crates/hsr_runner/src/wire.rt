@@ -6,7 +6,7 @@ use hsr_link::Dir;
 use hsr_topology::{End, Topology};
 
 /// The link of a port, and the direction in which copies leave the port on it.
-#[derive(Clone, Copy, Debug, PartialEq, Eq)]
+#[derive(Clone, Copy, PartialEq, Eq)]
 pub(crate) struct Wire {
     pub(crate) link: usize,
     pub(crate) out: Dir,

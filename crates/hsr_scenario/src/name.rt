@@ -7,7 +7,7 @@ use std::alloc::Global;
 use std::marker::Model;
 
 /// The name of a node.
-#[derive(Debug, Drop)]
+#[derive(Drop)]
 pub(crate) struct Name {
     text: String,
 }

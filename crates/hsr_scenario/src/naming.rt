@@ -17,7 +17,7 @@ use toml::Table;
 /// The topology of a scenario, and the name of each node in the topology's order: 1 to 32 small letters, digits and hyphens, no two
 /// alike. Of each node also the stream of each of its sends and supervision frames, in the scenario's order: a name of the same form, or
 /// an empty one where it's from none.
-#[derive(Debug, Drop)]
+#[derive(Drop)]
 pub struct Names {
     pub topology: Topology,
     pub names: Vec<Vec<u8>>,

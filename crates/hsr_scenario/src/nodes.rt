@@ -25,7 +25,7 @@ use std::alloc::Global;
 use toml::Table;
 
 /// A node with its name.
-#[derive(Debug, Drop)]
+#[derive(Drop)]
 pub(crate) struct Named {
     pub(crate) name: Name,
     pub(crate) place: Place,

@@ -5,7 +5,7 @@ use crate::steps::Order;
 use hsr_topology::Topology;
 
 /// What a bench is made of, and what it does.
-#[derive(Debug, Drop)]
+#[derive(Drop)]
 pub struct Scenario {
     pub topology: Topology,
     /// How many copies wait in each direction of a link, 1 to 4096.

@@ -32,7 +32,7 @@ use std::alloc::Global;
 use toml::{Table, Value};
 
 /// What a scenario does next.
-#[derive(Clone, Debug, Drop, PartialEq, Eq)]
+#[derive(Clone, Drop, PartialEq, Eq)]
 pub enum Order {
     /// A step of the world.
     Step(Step),

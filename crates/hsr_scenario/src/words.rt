@@ -6,7 +6,7 @@ use hsr_text::split_at;
 use hsr_toml::{is_name, is_port_letter};
 
 /// What a step does.
-#[derive(Clone, Copy, Debug, PartialEq, Eq)]
+#[derive(Clone, Copy, PartialEq, Eq)]
 pub(crate) enum Deed {
     Clock,
     Send,

@@ -125,7 +125,7 @@ pub fn needed_of(
 }
 
 /// The most frames that began at a point in any 400 ms, and where these begin.
-#[derive(Clone, Copy, Debug, Default, PartialEq, Eq)]
+#[derive(Clone, Copy, Default, PartialEq, Eq)]
 pub struct Crowd {
     pub frames: usize,
     /// The index of the copy that begins the fullest 400 ms.

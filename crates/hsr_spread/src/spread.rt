@@ -7,7 +7,7 @@ use hsr_frame::NoMemory;
 use std::alloc::Global;
 
 /// The least, the lower median and the greatest of some numbers.
-#[derive(Clone, Copy, Debug, PartialEq, Eq)]
+#[derive(Clone, Copy, PartialEq, Eq)]
 pub struct Spread {
     pub min: u64,
     pub mid: u64,
@@ -15,7 +15,7 @@ pub struct Spread {
 }
 
 /// A number that is told of one of several, by its index.
-#[derive(Clone, Copy, Debug, PartialEq, Eq)]
+#[derive(Clone, Copy, PartialEq, Eq)]
 pub struct Told {
     pub of: usize,
     pub amount: u64,

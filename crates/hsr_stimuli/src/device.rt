@@ -34,7 +34,7 @@ impl Model for Shown {
 }
 
 /// Why there are no stimuli.
-#[derive(Clone, Copy, Debug)]
+#[derive(Clone, Copy)]
 pub enum NoStimuli {
     /// The device is no DANH, RedBox or QuadBox with an address that it can have.
     NoPlace,

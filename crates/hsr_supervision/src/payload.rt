@@ -37,7 +37,7 @@ pub enum SupFault {
 }
 
 /// The kind of node that a payload is about, by the type of TLV1 (IEC 62439-3 clause 5.7).
-#[derive(Clone, Copy, Debug, Default, PartialEq, Eq)]
+#[derive(Clone, Copy, Default, PartialEq, Eq)]
 pub enum SupKind {
     /// A PRP node that discards duplicates (type 20).
     PrpDiscard,
@@ -50,7 +50,7 @@ pub enum SupKind {
 
 /// What a supervision payload says (IEC 62439-3 clause 5.7): the path is below 16 and the version below
 /// 4096, `seq` counts the sender's supervision frames, and `redbox` sends for the node `about`.
-#[derive(Clone, Copy, Debug, PartialEq, Eq)]
+#[derive(Clone, Copy, PartialEq, Eq)]
 pub struct Supervision {
     pub path: u8,
     pub version: u16,

@@ -8,7 +8,7 @@ use hsr_node::Octets;
 use std::alloc::Global;
 
 /// What a text tells. Its size, colour and weight go by it.
-#[derive(Clone, Copy, Debug)]
+#[derive(Clone, Copy)]
 pub enum Label {
     /// How large the run is, and what of it is shown.
     Title,
@@ -37,7 +37,7 @@ pub enum Label {
 }
 
 /// What a line is that is no arrow.
-#[derive(Clone, Copy, Debug)]
+#[derive(Clone, Copy)]
 pub enum Line {
     /// It stands over the first row of a moment.
     Moment,
@@ -48,7 +48,7 @@ pub enum Line {
 }
 
 /// Where a line runs, in user units of SVG from the upper left corner.
-#[derive(Clone, Copy, Debug)]
+#[derive(Clone, Copy)]
 pub struct Way {
     pub x1: u64,
     pub y1: u64,
@@ -57,7 +57,7 @@ pub struct Way {
 }
 
 /// Where something lies that has a width and a height, in user units of SVG; `x` and `y` are its upper left corner.
-#[derive(Clone, Copy, Debug)]
+#[derive(Clone, Copy)]
 pub struct Area {
     pub x: u64,
     pub y: u64,
@@ -66,7 +66,7 @@ pub struct Area {
 }
 
 /// Which part of a text stands at its point.
-#[derive(Clone, Copy, Debug)]
+#[derive(Clone, Copy)]
 pub enum Anchor {
     Start,
     Middle,
@@ -74,14 +74,14 @@ pub enum Anchor {
 }
 
 /// Which way a text runs.
-#[derive(Clone, Copy, Debug)]
+#[derive(Clone, Copy)]
 pub enum Reading {
     Across,
     Upwards,
 }
 
 /// Where a text stands, in user units of SVG from the upper left corner.
-#[derive(Clone, Copy, Debug)]
+#[derive(Clone, Copy)]
 pub struct Spot {
     pub x: u64,
     pub y: u64,
@@ -90,7 +90,7 @@ pub struct Spot {
 }
 
 /// An element of a picture.
-#[derive(Debug, Drop)]
+#[derive(Drop)]
 pub enum Element {
     /// An arrow, with its hover text.
     Arrow {

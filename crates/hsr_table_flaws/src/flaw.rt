@@ -2,7 +2,7 @@
 
 /// Where something that was needed was forgotten, a number mistaken, or a number given late: the number of the node, and the
 /// place in its record.
-#[derive(Clone, Copy, Debug, PartialEq, Eq)]
+#[derive(Clone, Copy, PartialEq, Eq)]
 pub enum Flaw {
     /// An arrival wants an egress on which its send was noted before, and no such note was remembered.
     Forgot { node: usize, place: usize },

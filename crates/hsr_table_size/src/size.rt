@@ -5,7 +5,7 @@ use hsr_text::decimal;
 
 /// How many entries a duplicate table holds. The standard fixes no number of entries (IEC 62439-3 clause 5.3): each size is a choice of
 /// this program.
-#[derive(Clone, Copy, Debug, PartialEq, Eq)]
+#[derive(Clone, Copy, PartialEq, Eq)]
 pub enum TableSize {
     Small,
     Entries8,

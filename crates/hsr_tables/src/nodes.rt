@@ -11,7 +11,7 @@ use std::marker::Model;
 /// A node that was heard: its address, kind and RedBox as its latest
 /// supervision frame has them, and the moments in microseconds of its latest frame on each port. They go
 /// back to the frame that made it known, and no further.
-#[derive(Clone, Copy, Debug, Default, PartialEq, Eq)]
+#[derive(Clone, Copy, Default, PartialEq, Eq)]
 pub struct NodeRow {
     pub mac: Mac,
     pub kind: SupKind,

@@ -41,7 +41,7 @@ enum Seen {
 }
 
 /// How it ended: a report was written, and this is whether the ring is healthy; or nothing was, as an interface is named that isn't there.
-#[derive(Clone, Copy, Debug)]
+#[derive(Clone, Copy)]
 pub(crate) enum Ended {
     Told(bool),
     NoInterface(usize),

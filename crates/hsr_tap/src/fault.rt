@@ -15,7 +15,7 @@ use hsr_toml::put_shown;
 use std::alloc::Global;
 
 /// Why nothing is written.
-#[derive(Debug, Drop)]
+#[derive(Drop)]
 pub enum Fault {
     /// The capture can't be read, at this offset.
     Capture(Refusal),

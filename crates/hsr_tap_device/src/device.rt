@@ -4,7 +4,7 @@ use hsr_node::{Octets, Role};
 use std::marker::Model;
 
 /// Where copies enter and leave a device: by a ring port, by the interlink of a RedBox, or to and from the host.
-#[derive(Clone, Copy, Debug, PartialEq, Eq)]
+#[derive(Clone, Copy, PartialEq, Eq)]
 pub enum End {
     A,
     B,
@@ -15,7 +15,7 @@ pub enum End {
 }
 
 /// Which way the packets of an interface pass its end.
-#[derive(Clone, Copy, Debug, PartialEq, Eq)]
+#[derive(Clone, Copy, PartialEq, Eq)]
 pub enum Passing {
     /// All go into the device.
     In,
@@ -28,21 +28,21 @@ pub enum Passing {
 }
 
 /// What an interface of a capture is.
-#[derive(Clone, Copy, Debug, PartialEq, Eq)]
+#[derive(Clone, Copy, PartialEq, Eq)]
 pub struct Tap {
     pub end: End,
     pub passing: Passing,
 }
 
 /// An interface of a capture, by its name or its number, and what it is.
-#[derive(Debug, Drop)]
+#[derive(Drop)]
 pub struct Named {
     pub name: Octets,
     pub tap: Tap,
 }
 
 /// From one moment up to before another, in microseconds, copies by an end may be missing.
-#[derive(Clone, Copy, Debug, PartialEq, Eq)]
+#[derive(Clone, Copy, PartialEq, Eq)]
 pub struct Down {
     pub port: End,
     pub from: u64,
@@ -50,7 +50,7 @@ pub struct Down {
 }
 
 /// What need not agree.
-#[derive(Clone, Copy, Debug, PartialEq, Eq)]
+#[derive(Clone, Copy, PartialEq, Eq)]
 pub struct Ignored {
     /// Paths of frames that are sent on.
     pub path: bool,
@@ -69,7 +69,7 @@ pub struct Ignored {
 }
 
 /// The role of a device, its address, if it has one, and its mode.
-#[derive(Clone, Copy, Debug, PartialEq, Eq)]
+#[derive(Clone, Copy, PartialEq, Eq)]
 pub struct Owner {
     pub role: Role,
     pub mac: Option<Mac>,
@@ -77,7 +77,7 @@ pub struct Owner {
 }
 
 /// Times of a judgement, in microseconds.
-#[derive(Clone, Copy, Debug, PartialEq, Eq)]
+#[derive(Clone, Copy, PartialEq, Eq)]
 pub struct Times {
     /// A copy is in time up to so long after what caused it, and so long before it.
     pub within: u64,
@@ -90,14 +90,14 @@ pub struct Times {
 }
 
 /// The first number of a device, and its first supervision number, where they are said.
-#[derive(Clone, Copy, Debug, PartialEq, Eq)]
+#[derive(Clone, Copy, PartialEq, Eq)]
 pub struct Numbers {
     pub start: Option<u16>,
     pub life_start: Option<u16>,
 }
 
 /// What a document says of a device.
-#[derive(Debug, Drop)]
+#[derive(Drop)]
 pub struct Device {
     pub owner: Owner,
     /// How many entries its duplicate tables have.

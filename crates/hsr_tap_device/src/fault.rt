@@ -9,7 +9,7 @@ use hsr_toml::TableKey;
 use std::alloc::AllocFailed;
 
 /// A key of a document that describes a device.
-#[derive(Clone, Copy, Debug, PartialEq, Eq)]
+#[derive(Clone, Copy, PartialEq, Eq)]
 pub enum Key {
     Role,
     /// Written `mac`.
@@ -97,7 +97,7 @@ impl Key {
 
 /// Why a text describes no device. Keys that documents don't have, and kinds, are tried before all values; at one key the others are
 /// tried in this order.
-#[derive(Debug, Drop)]
+#[derive(Drop)]
 pub enum DeviceFault {
     /// The text has over 16 MiB, or is no TOML.
     Text,

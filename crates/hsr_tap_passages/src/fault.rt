@@ -10,7 +10,7 @@ use hsr_toml::put_shown;
 use std::alloc::AllocFailed;
 
 /// Why a capture doesn't fit a device.
-#[derive(Debug, Drop)]
+#[derive(Drop)]
 pub enum PassageFault {
     /// An interface of this link type is no Ethernet.
     Link(u16),

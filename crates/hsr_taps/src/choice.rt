@@ -2,7 +2,7 @@
 use std::marker::Model;
 
 /// How the directions of interfaces are to be told apart.
-#[derive(Clone, Copy, Debug, Default, PartialEq, Eq)]
+#[derive(Clone, Copy, Default, PartialEq, Eq)]
 pub enum TapsAsked {
     /// As each interface's packets tell.
     #[default]

@@ -5,7 +5,7 @@ ghost use Rattle.hsr_taps.specs.Directions.{IsPart, direction_of, interface_of, 
 use hsr_capture_reader::Way;
 
 /// How the directions of an interface are told apart.
-#[derive(Clone, Copy, Debug, PartialEq, Eq)]
+#[derive(Clone, Copy, PartialEq, Eq)]
 pub enum Taps {
     /// It is one direction.
     One,
@@ -16,7 +16,7 @@ pub enum Taps {
 }
 
 /// Which of an interface's directions one is.
-#[derive(Clone, Copy, Debug, PartialEq, Eq)]
+#[derive(Clone, Copy, PartialEq, Eq)]
 pub enum Part {
     /// All of it, or packets whose flags don't tell it.
     Whole,

@@ -14,7 +14,7 @@ use std::alloc::Global;
 const ETHERNET: u16 = 1;
 
 /// How many packets came at an interface, and what they are.
-#[derive(Clone, Copy, Debug, Default, PartialEq, Eq)]
+#[derive(Clone, Copy, Default, PartialEq, Eq)]
 pub struct Tally {
     pub packets: u64,
     pub untagged: u64,

@@ -16,7 +16,7 @@ use hsr_frame_groups::Caught;
 use std::alloc::Global;
 
 /// A packet that is no copy of a tagged frame.
-#[derive(Clone, Copy, Debug, PartialEq, Eq)]
+#[derive(Clone, Copy, PartialEq, Eq)]
 pub struct Stray {
     pub at: u64,
     pub packet: u32,

@@ -11,7 +11,7 @@ use std::io::{BufRead, ErrorKind};
 pub const READ_LIMIT: u64 = 1 << 40;
 
 /// What `next_line` found.
-#[derive(Clone, Copy, Debug, PartialEq, Eq)]
+#[derive(Clone, Copy, PartialEq, Eq)]
 pub enum Front {
     /// A line with its line feed.
     Line,
@@ -22,7 +22,7 @@ pub enum Front {
 }
 
 /// The reader failed, or no reads are left.
-#[derive(Clone, Copy, Debug, PartialEq, Eq)]
+#[derive(Clone, Copy, PartialEq, Eq)]
 pub struct ReaderFault;
 
 /// The front of a piece that a line with this room can tell: one octet that finds no room ends it too.

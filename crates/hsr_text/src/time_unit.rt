@@ -8,7 +8,7 @@ use crate::words::decimal;
 const MICROSECONDS: u64 = 1000;
 
 /// The unit in which a text tells its moments.
-#[derive(Clone, Copy, Debug, PartialEq, Eq)]
+#[derive(Clone, Copy, PartialEq, Eq)]
 pub enum TimeUnit {
     Milliseconds,
     Microseconds,

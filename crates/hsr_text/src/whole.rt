@@ -10,7 +10,7 @@ use std::io::{ErrorKind, Read};
 const PIECE_LIMIT: usize = 4096;
 
 /// Why a text isn't read.
-#[derive(Clone, Copy, Debug, PartialEq, Eq)]
+#[derive(Clone, Copy, PartialEq, Eq)]
 pub enum InputFault {
     /// The reader failed, or took too many reads.
     Read,

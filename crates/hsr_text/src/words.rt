@@ -14,7 +14,7 @@ use memchr::memchr;
 use std::alloc::Global;
 
 /// Why a word isn't read.
-#[derive(Clone, Copy, Debug, PartialEq, Eq)]
+#[derive(Clone, Copy, PartialEq, Eq)]
 pub enum WordFault {
     /// It spells nothing of its kind.
     Bad,

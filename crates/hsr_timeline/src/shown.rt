@@ -5,7 +5,7 @@
 /// within it by step, the longest chain of causes; then by the node and place of an entry. That is the entry that judged the copy; or
 /// where the copy was lost the one that passed it. Rows that one entry judged and lost copies that it passed stand in this order,
 /// and these by link and number, the index of the row on the link.
-#[derive(Clone, Copy, Debug, PartialEq, Eq, PartialOrd, Ord)]
+#[derive(Clone, Copy, PartialEq, Eq, PartialOrd, Ord)]
 pub struct Shown {
     pub moment: u64,
     pub step: u64,

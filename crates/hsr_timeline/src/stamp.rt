@@ -4,7 +4,7 @@ ghost use Rattle.hsr_timeline.specs.Stamps.{is_earlier, later};
 
 /// When an entry took place: its moment in microseconds, the greatest of its own and of those that it follows; and its step
 /// within that moment, the length of the longest chain of entries that lead to it there.
-#[derive(Clone, Copy, Debug, PartialEq, Eq)]
+#[derive(Clone, Copy, PartialEq, Eq)]
 pub struct Stamp {
     pub moment: u64,
     pub step: u64,

@@ -23,7 +23,7 @@ use hsr_frame::NoMemory;
 use std::alloc::Global;
 
 /// Why the rows of a run have no order of time.
-#[derive(Clone, Copy, Debug, PartialEq, Eq)]
+#[derive(Clone, Copy, PartialEq, Eq)]
 pub enum StoryFault {
     /// Entries follow one another in a circle, so that no order of time has them all.
     Circle,

@@ -10,7 +10,7 @@ use hsr_frame::NoMemory;
 use std::alloc::Global;
 
 /// Why entries have no stamps.
-#[derive(Clone, Copy, Debug, PartialEq, Eq)]
+#[derive(Clone, Copy, PartialEq, Eq)]
 pub enum OrderFault {
     /// Entries follow one another in a circle, or one follows an entry that isn't there.
     Circle,

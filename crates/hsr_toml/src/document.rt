@@ -12,7 +12,7 @@ use toml::Table;
 pub const TEXT_LIMIT: usize = 1 << 24;
 
 /// Why a text is no document.
-#[derive(Clone, Copy, Debug, PartialEq, Eq)]
+#[derive(Clone, Copy, PartialEq, Eq)]
 pub enum NoDocument {
     /// The text has over 16 MiB, or is no TOML.
     NoToml,

@@ -10,7 +10,7 @@ use hsr_frame::NoMemory;
 use std::alloc::Global;
 
 /// What the octets of a text are part of. A string is told by the octet that quotes it.
-#[derive(Clone, Copy, Debug, PartialEq, Eq)]
+#[derive(Clone, Copy, PartialEq, Eq)]
 pub enum Lexing {
     /// Neither a comment nor a string.
     Plain,

@@ -6,7 +6,7 @@ use hsr_node::Place;
 
 /// An end of a link: a port of a node, each by its number.
 /// A and B are 0 and 1, a RedBox's interlink is 2, a QuadBox's C and D are 2 and 3, and a Station's port is 0.
-#[derive(Clone, Copy, Debug, PartialEq, Eq)]
+#[derive(Clone, Copy, PartialEq, Eq)]
 pub struct End {
     pub node: usize,
     pub port: u8,

@@ -21,7 +21,7 @@ const LINK_LIMIT: usize = 128;
 /// Nodes, and the links that join their ports. Nodes and links have numbers from 0, by their places in the lists. No
 /// node has the address of a group, a Station has its addresses once each and one at least; a link joins ports that are
 /// there, of two nodes, no port has two links, and what faces an interlink is a Station. A port may have no link.
-#[derive(Debug, Drop)]
+#[derive(Drop)]
 pub struct Topology {
     places: Vec<Place>,
     links: Vec<[End; 2]>,

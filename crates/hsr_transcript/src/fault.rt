@@ -5,7 +5,7 @@ use hsr_finished_run::Disagree;
 use std::alloc::AllocFailed;
 
 /// Why a run isn't written.
-#[derive(Clone, Copy, Debug, PartialEq, Eq)]
+#[derive(Clone, Copy, PartialEq, Eq)]
 pub enum WriteFault {
     /// The writer failed; some of the text may stand on it.
     Write,
@@ -14,7 +14,7 @@ pub enum WriteFault {
 }
 
 /// Why a text isn't read.
-#[derive(Clone, Copy, Debug, PartialEq, Eq)]
+#[derive(Clone, Copy, PartialEq, Eq)]
 pub enum ReadFault {
     /// The first line is another one than that of this version.
     Version,

@@ -2,7 +2,7 @@
 use crate::views::What;
 
 /// What is asked for, and the path of the scenario whose names stand in place of numbers.
-#[derive(Debug, Drop)]
+#[derive(Drop)]
 pub struct Asked<'a> {
     pub what: What<'a>,
     pub names: Option<&'a str>,

@@ -11,7 +11,7 @@ use hsr_transcript::ReadFault;
 use std::fmt;
 
 /// From the moment of one copy to that of another, in microseconds.
-#[derive(Clone, Copy, Debug, PartialEq, Eq)]
+#[derive(Clone, Copy, PartialEq, Eq)]
 pub struct Moments {
     pub first: u64,
     pub last: u64,
@@ -28,7 +28,7 @@ impl fmt::Display for Moments {
 }
 
 /// How many copies a run has, and of which moments.
-#[derive(Clone, Copy, Debug, PartialEq, Eq)]
+#[derive(Clone, Copy, PartialEq, Eq)]
 pub struct Extent {
     pub copies: usize,
     pub moments: Moments,
@@ -45,7 +45,7 @@ impl fmt::Display for Extent {
 }
 
 /// Why nothing is shown.
-#[derive(Clone, Copy, Debug, PartialEq, Eq)]
+#[derive(Clone, Copy, PartialEq, Eq)]
 pub enum Fault {
     /// The text is no transcript of a finished run.
     Transcript(ReadFault),

@@ -2,7 +2,7 @@
 use hsr_diagram::Span;
 
 /// What is to be shown of a run.
-#[derive(Debug, Drop)]
+#[derive(Drop)]
 pub enum What<'a> {
     /// A capture: of one link, counted from 0, or of all; of the copies of one send, by the name of its node and its
     /// place in that node's record, or of all.

@@ -10,7 +10,7 @@ use hsr_node::{Octets, StepFault};
 pub const INJECT_LIMIT: usize = 2048;
 
 /// What may happen in a world.
-#[derive(Clone, Debug, Drop, PartialEq, Eq)]
+#[derive(Clone, Drop, PartialEq, Eq)]
 pub enum Step {
     /// The moment is set, in microseconds, earlier ones too.
     Clock {
@@ -68,7 +68,7 @@ pub enum Step {
 
 // `NoMemory` stands last, though it may come at any point: no clause says when an allocation fails.
 /// Why a step is refused, in the order in which the reasons are tried.
-#[derive(Clone, Copy, Debug, PartialEq, Eq)]
+#[derive(Clone, Copy, PartialEq, Eq)]
 pub enum WorldFault {
     /// There is no node of this number.
     NoSuchNode,
@@ -103,7 +103,7 @@ impl WorldFault {
 
 /// Why a drain ends early.
 /// The steps before it stand.
-#[derive(Clone, Copy, Debug, PartialEq, Eq)]
+#[derive(Clone, Copy, PartialEq, Eq)]
 pub enum DrainFault {
     /// As many steps as allowed were done, and something is left.
     Unsettled,
