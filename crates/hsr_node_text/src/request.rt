@@ -5,8 +5,7 @@ ghost use Rattle.hsr_node_text.specs.Request.{about_of, age_in, arrival_in, last
 
 use hsr_frame::{About, Mac};
 use hsr_node::{Carried, Event, Octets, Place};
-use hsr_short_words::short_word;
-use hsr_text::{TimeUnit, WordFault, hex_octets, hex_pair, word};
+use hsr_text::{TimeUnit, WordFault, hex_octets, hex_pair, short_word, word};
 use std::alloc::Global;
 
 /// Whom lines are for, and how they tell moments.

@@ -1,1 +1,3 @@
 pub mod Recent
+pub mod Previous
+pub mod Ready

@@ -4,8 +4,8 @@ use Rattle.std.specs.Prelude.{nat_eq, filter, slice_get, slice_index}
 use Rattle.std.proofs.lemmas.Bool.{and_from, and_parts, eq-eqb, eqb-true, false_from_ne_true}
 use Rattle.std.proofs.lemmas.Option.{get_or_from_slice_get, same_Some, slice_get-get_or, slice_get_within}
 use Rattle.hsr_frame_groups.specs.Frames.{CaughtFields, frame_time, past_of}
-use Rattle.hsr_previous.specs.declared.previous.Keyed.{Keyed}
-use Rattle.hsr_previous.specs.Previous.{AreInTime, IsLatestBefore, IsPreviousOf}
+use Rattle.hsr_recent_table.specs.declared.previous.Keyed.{Keyed}
+use Rattle.hsr_recent_table.specs.Previous.{AreInTime, IsLatestBefore, IsPreviousOf}
 use Rattle.hsr_sightings.specs.Again.{carried_keyed, count_by_previous}
 use Rattle.hsr_sightings.specs.Copies.{carried_before}
 use Rattle.hsr_sightings.specs.Frames.{copies_of, frame_of}

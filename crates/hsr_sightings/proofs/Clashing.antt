@@ -6,8 +6,8 @@ use Rattle.std.proofs.lemmas.List.{length-map}
 use Rattle.std.proofs.lemmas.Option.{same_Some, slice_get_within}
 use Rattle.hsr_frame_copies.specs.Alike.{says_same}
 use Rattle.hsr_frame_groups.specs.Frames.{CaughtFields, first_copy, frame_time, key_of, past_of}
-use Rattle.hsr_previous.specs.declared.previous.Keyed.{Keyed}
-use Rattle.hsr_previous.specs.Previous.{AreInTime, IsPreviousOf}
+use Rattle.hsr_recent_table.specs.declared.previous.Keyed.{Keyed}
+use Rattle.hsr_recent_table.specs.Previous.{AreInTime, IsPreviousOf}
 use Rattle.hsr_sightings.specs.Clash.{clash_by, copy_found, copy_key, says_other_at}
 use Rattle.hsr_sightings.specs.Copies.{differs, is_clash}
 use Rattle.hsr_sightings.specs.Frames.{begins, frame_of}

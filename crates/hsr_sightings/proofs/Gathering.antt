@@ -6,8 +6,8 @@ use Rattle.std.proofs.lemmas.Bool.{and_from, and_left, and_parts, and_right, bot
 use Rattle.std.proofs.lemmas.List.{length-reverse, length-set, length-take, length_push, take_all}
 use Rattle.std.proofs.lemmas.Option.{get_or_from_slice_get, same_Some, slice_get-get_or, slice_get_within}
 use Rattle.hsr_frame_groups.specs.Frames.{CaughtFields, first_copy, frame_time, past_of}
-use Rattle.hsr_previous.specs.declared.previous.Keyed.{Keyed}
-use Rattle.hsr_previous.specs.Previous.{AreInTime, IsPreviousOf}
+use Rattle.hsr_recent_table.specs.declared.previous.Keyed.{Keyed}
+use Rattle.hsr_recent_table.specs.Previous.{AreInTime, IsPreviousOf}
 use Rattle.hsr_sightings.specs.Copies.{begins_there, begun_at, carried_before}
 use Rattle.hsr_sightings.specs.Finding.{AreFound, IsPreviousSighting}
 use Rattle.hsr_sightings.specs.Frames.{copies_of, frame_of}

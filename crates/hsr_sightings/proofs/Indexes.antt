@@ -6,10 +6,10 @@ use Rattle.std.proofs.lemmas.List.{reverse-append, take_more}
 use Rattle.std.proofs.lemmas.Option.{get_or_from_slice_get, none-some, same_Some, slice_get-get_or, slice_get-map, slice_get_within}
 use Rattle.hsr_frame_copies.specs.Alike.{says_same}
 use Rattle.hsr_frame_groups.specs.Frames.{CaughtFields, first_copy, frame_time, joined_to, joins, key_of, latest_frame, past_of}
-use Rattle.hsr_previous.specs.declared.previous.Keyed.{Keyed}
-use Rattle.hsr_previous.specs.declared.previous.Previous.{Previous}
-use Rattle.hsr_previous.specs.Previous.{AreInTime}
-use Rattle.hsr_previous.specs.Ready.{HaveCome, latest_of}
+use Rattle.hsr_recent_table.specs.declared.previous.Keyed.{Keyed}
+use Rattle.hsr_recent_table.specs.declared.previous.Previous.{Previous}
+use Rattle.hsr_recent_table.specs.Previous.{AreInTime}
+use Rattle.hsr_recent_table.specs.Ready.{HaveCome, latest_of}
 use Rattle.hsr_sightings.specs.Frames.{frame_of}
 use Rattle.hsr_sightings.specs.Read.{AreRead, HaveOwnNumbers}
 

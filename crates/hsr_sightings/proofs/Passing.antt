@@ -5,8 +5,8 @@ use Rattle.std.proofs.lemmas.Bool.{and_left, and_right, cases_lt, cond-false, eq
 use Rattle.std.proofs.lemmas.List.{drop_more, get_or_append_left, length-map, length_push}
 use Rattle.std.proofs.lemmas.Option.{get_or_from_slice_get, same_Some, slice_get_within}
 use Rattle.hsr_frame_groups.specs.Frames.{CaughtFields, frame_time, past_of}
-use Rattle.hsr_previous.specs.declared.previous.Keyed.{Keyed}
-use Rattle.hsr_previous.specs.Previous.{AreInTime, IsPreviousOf}
+use Rattle.hsr_recent_table.specs.declared.previous.Keyed.{Keyed}
+use Rattle.hsr_recent_table.specs.Previous.{AreInTime, IsPreviousOf}
 use Rattle.hsr_sightings.specs.Clash.{copy_found}
 use Rattle.hsr_sightings.specs.Copies.{carried_before, is_again, is_behind, is_passed, is_recent, top_before, top_in, top_with}
 use Rattle.hsr_sightings.specs.Keys.{beside_key}

@@ -1,7 +1,7 @@
 -- How often a direction carried a frame, by keys.
 use Rattle.std.specs.Prelude.{ℕ, ◌≡◌, ◌+◌, ◌<◌, ◌^◌, List, slice_index, Option, Some, None}
 use Rattle.hsr_frame_groups.specs.Frames.{CaughtFields}
-use Rattle.hsr_previous.specs.declared.previous.Keyed.{Keyed}
+use Rattle.hsr_recent_table.specs.declared.previous.Keyed.{Keyed}
 use Rattle.hsr_sightings.specs.Keys.{carried_key}
 
 -- the moment of a copy, and its frame and its direction

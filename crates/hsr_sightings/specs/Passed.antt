@@ -1,7 +1,7 @@
 -- Copies that were overtaken, by the indexes of the greatest numbers so far.
 use Rattle.std.specs.Prelude.{ℕ, ◌≡◌, ◌+◌, ◌≤◌, ◌<◌, ◌==◌, ◌&&◌, not, Bool, false, if◌then◌else◌, List, length, slice_get, slice_index_or, Option, Some, None}
 use Rattle.hsr_frame_groups.specs.Frames.{CaughtFields, past_of}
-use Rattle.hsr_previous.specs.declared.previous.Keyed.{Keyed}
+use Rattle.hsr_recent_table.specs.declared.previous.Keyed.{Keyed}
 use Rattle.hsr_sightings.specs.Copies.{is_passed, top_in}
 use Rattle.hsr_sightings.specs.Keys.{beside_key}
 use Rattle.hsr_sightings.specs.Clash.{copy_found}

@@ -1,7 +1,7 @@
 -- What is kept of a frame as a point saw it, and what follows from that.
 use Rattle.std.specs.Prelude.{ℕ, ◌+◌, ◌-◌, ◌*◌, ◌==◌, ◌&&◌, ◌||◌, not, nat_lt, Bool, false, if◌then◌else◌, Option, Some, None, is_some}
 use Rattle.hsr_frame_groups.specs.Frames.{CaughtFields}
-use Rattle.hsr_previous.specs.declared.previous.Keyed.{Keyed}
+use Rattle.hsr_recent_table.specs.declared.previous.Keyed.{Keyed}
 use Rattle.hsr_sightings.specs.Ring.{Ring, forget_time, point_of, way_of}
 use Rattle.hsr_sightings.specs.declared.sighting.Fate.{Fate}
 use Rattle.hsr_sightings.specs.declared.sighting.Fate.TheVariants.{Twice, Once, More, Open}

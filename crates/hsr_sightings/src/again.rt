@@ -7,7 +7,7 @@ ghost use Rattle.hsr_sightings.specs.Read.{AreRead, TellsEach};
 
 use hsr_frame::NoMemory;
 use hsr_frame_groups::{Caught, FRAME_TIME};
-use hsr_previous::{Keyed, Previous};
+use hsr_recent_table::{Keyed, Previous};
 use std::alloc::Global;
 
 /// How many directions there may be, as numbers.

@@ -11,7 +11,7 @@ use crate::ring::FORGET_TIME;
 use hsr_frame::NoMemory;
 use hsr_frame_copies::says_same;
 use hsr_frame_groups::{Caught, FRAME_TIME, key_of};
-use hsr_previous::{Keyed, Previous};
+use hsr_recent_table::{Keyed, Previous};
 use std::alloc::Global;
 
 /// The moment of a copy, and its source and its number as one number.

@@ -8,11 +8,11 @@ ghost use Rattle.hsr_sightings.specs.Read.{AreOvertaken, AreRead, TellsEach};
 use crate::ring::FORGET_TIME;
 use hsr_frame::NoMemory;
 use hsr_frame_groups::{Caught, FRAME_TIME};
-use hsr_previous::{Keyed, Previous};
+use hsr_recent_table::{Keyed, Previous};
 use std::alloc::Global;
 
 /// A copy that was overtaken, by its index, and the number that it is behind.
-#[derive(Clone, Copy, Debug, PartialEq, Eq)]
+#[derive(Clone, Copy, PartialEq, Eq)]
 pub struct Overtaken {
     pub copy: u32,
     pub behind: u16,

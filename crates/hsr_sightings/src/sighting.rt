@@ -10,7 +10,7 @@ ghost use Rattle.hsr_sightings.specs.Fields.{Sighting};
 use crate::ring::{FORGET_TIME, Ring};
 use hsr_frame::NoMemory;
 use hsr_frame_groups::{Caught, FRAME_TIME};
-use hsr_previous::{Keyed, Previous};
+use hsr_recent_table::{Keyed, Previous};
 use std::alloc::Global;
 use std::marker::Model;
 
@@ -60,7 +60,7 @@ pub struct Sightings {
 }
 
 /// What became of a frame at a point.
-#[derive(Clone, Copy, Debug, PartialEq, Eq)]
+#[derive(Clone, Copy, PartialEq, Eq)]
 pub enum Fate {
     /// It came on both ways, and no direction carried it twice.
     Twice,

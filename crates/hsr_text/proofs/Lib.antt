@@ -4,3 +4,4 @@ pub mod Cuts
 pub mod LineCuts
 pub mod Pieces
 pub mod Units
+mod Looks

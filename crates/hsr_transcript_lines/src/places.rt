@@ -14,8 +14,7 @@ use crate::words::{mac_fits, put_next_mac, put_number, put_word};
 use arrayvec::ArrayVec;
 use hsr_frame::{Mac, Mode, NoMemory};
 use hsr_node::{Place, Role};
-use hsr_short_words::short_word;
-use hsr_text::{WordFault, decimal, put_decimal, split_at};
+use hsr_text::{WordFault, decimal, put_decimal, short_word, split_at};
 use hsr_topology::End;
 use std::alloc::Global;
 

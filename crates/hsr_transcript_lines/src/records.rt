@@ -14,8 +14,7 @@ use crate::words::{
 };
 use hsr_frame::{Mac, NoMemory};
 use hsr_node::{Carried, Entry, Event, Octets, Outcome, Place};
-use hsr_short_words::short_word;
-use hsr_text::{TimeUnit, WordFault, hex_octets, hex_pair, put_decimal, word};
+use hsr_text::{TimeUnit, WordFault, hex_octets, hex_pair, put_decimal, short_word, word};
 use std::alloc::Global;
 
 /// The line of an entry of a node at this place, with its moment in this unit: `<worker> <at> <event> = <outcome>`.

@@ -8,8 +8,7 @@ use crate::words::{carried_fits, put_octets, put_probe, put_word};
 use hsr_frame::NoMemory;
 use hsr_link::{Dir, Row};
 use hsr_node::{Carried, Octets};
-use hsr_short_words::short_word;
-use hsr_text::{WordFault, hex_octets, word};
+use hsr_text::{WordFault, hex_octets, short_word, word};
 use std::alloc::Global;
 
 /// The line of a row of a link: `<forth|back> <probe> <octets> <taken|down|cut|overrun>`.

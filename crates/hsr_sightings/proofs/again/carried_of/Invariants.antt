@@ -1,7 +1,7 @@
 use Rattle.std.proofs.Common.{◌≡◌, ℕ, ◌<◌, ◌≤◌, length, Some}
 use Rattle.std.specs.Prelude.{slice_get}
 use Rattle.hsr_frame_groups.specs.Frames.{CaughtFields, frame_time, past_of}
-use Rattle.hsr_previous.specs.Ready.{HaveCome}
+use Rattle.hsr_recent_table.specs.Ready.{HaveCome}
 use Rattle.hsr_sightings.specs.Copies.{carried_before}
 use Rattle.hsr_sightings.proofs.Carrying.{carried_keys}
 use Rattle.hsr_sightings.proofs.again.carried_of.Given as goal

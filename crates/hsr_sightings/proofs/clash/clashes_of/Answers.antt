@@ -2,8 +2,8 @@ use Rattle.std.proofs.Common.{◌≡◌, ◌∙◌, Some, ap, arith, map, refl, 
 use Rattle.std.specs.Prelude.{slice_get}
 use Rattle.std.proofs.lemmas.Option.{slice_get_read, slice_get_within}
 use Rattle.hsr_frame_groups.specs.Frames.{frame_time, past_of}
-use Rattle.hsr_previous.specs.declared.previous.Keyed.{Keyed}
-use Rattle.hsr_previous.specs.Previous.{IsPreviousOf}
+use Rattle.hsr_recent_table.specs.declared.previous.Keyed.{Keyed}
+use Rattle.hsr_recent_table.specs.Previous.{IsPreviousOf}
 use Rattle.hsr_sightings.specs.Clash.{copy_key}
 use Rattle.hsr_sightings.specs.Copies.{is_clash}
 use Rattle.hsr_sightings.proofs.Clashing.{clash_at, key_at, keys_in_time}

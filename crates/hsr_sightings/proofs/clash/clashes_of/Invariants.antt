@@ -1,7 +1,7 @@
 use Rattle.std.proofs.Common.{◌≡◌, ℕ, ◌<◌, length, map, Some}
 use Rattle.std.specs.Prelude.{slice_get}
 use Rattle.hsr_frame_groups.specs.Frames.{CaughtFields, frame_time, past_of}
-use Rattle.hsr_previous.specs.Ready.{HaveCome}
+use Rattle.hsr_recent_table.specs.Ready.{HaveCome}
 use Rattle.hsr_sightings.specs.Clash.{copy_key}
 use Rattle.hsr_sightings.specs.Copies.{is_clash}
 use Rattle.hsr_sightings.proofs.clash.clashes_of.Given as goal

@@ -2,8 +2,8 @@ use Rattle.std.proofs.Common.{◌≡◌, ◌+◌, ◌∙◌, Some, ap, arith, ma
 use Rattle.std.specs.Prelude.{slice_get, slice_index}
 use Rattle.std.proofs.lemmas.Option.{get_or_from_slice_get, same_Some, slice_get_read}
 use Rattle.hsr_frame_groups.specs.Frames.{CaughtFields, frame_time, past_of}
-use Rattle.hsr_previous.specs.declared.previous.Keyed.{Keyed}
-use Rattle.hsr_previous.specs.Previous.{IsPreviousOf}
+use Rattle.hsr_recent_table.specs.declared.previous.Keyed.{Keyed}
+use Rattle.hsr_recent_table.specs.Previous.{IsPreviousOf}
 use Rattle.hsr_sightings.specs.Copies.{carried_before, top_before, top_in}
 use Rattle.hsr_sightings.specs.Keys.{beside_key}
 use Rattle.hsr_sightings.specs.Passed.{TellsTop, beside_keyed, top_by}

@@ -1,6 +1,6 @@
 use Rattle.std.proofs.Common.{◌≡◌, ◌++◌, drop, map}
 use Rattle.hsr_frame_groups.specs.Frames.{frame_time}
-use Rattle.hsr_previous.specs.Ready.{HaveCome}
+use Rattle.hsr_recent_table.specs.Ready.{HaveCome}
 use Rattle.hsr_sightings.specs.Passed.{AreTops, beside_keyed}
 use Rattle.hsr_sightings.specs.Read.{overtaken_from}
 use Rattle.hsr_sightings.proofs.overtaken.overtaken_of.Given as goal

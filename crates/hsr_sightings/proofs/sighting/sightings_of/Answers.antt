@@ -2,8 +2,8 @@ use Rattle.std.proofs.Common.{◌≡◌, ◌∙◌, [], Some, ap, arith, get_or,
 use Rattle.std.proofs.lemmas.List.{get_or-replicate, length-replicate}
 use Rattle.std.proofs.lemmas.Option.{get_or_from_slice_get, slice_get_read, slice_get_within}
 use Rattle.hsr_frame_groups.specs.Frames.{frame_time}
-use Rattle.hsr_previous.specs.declared.previous.Keyed.{Keyed}
-use Rattle.hsr_previous.specs.Previous.{IsPreviousOf}
+use Rattle.hsr_recent_table.specs.declared.previous.Keyed.{Keyed}
+use Rattle.hsr_recent_table.specs.Previous.{IsPreviousOf}
 use Rattle.hsr_sightings.specs.Finding.{AreFound}
 use Rattle.hsr_sightings.proofs.Gathering.{all_found, are_keys, keys_in_time, none_found, previous_is, sighting_keys}
 use Rattle.hsr_sightings.proofs.Indexes.{no_later}

@@ -1,5 +1,5 @@
 use Rattle.hsr_frame_groups.specs.Frames.{frame_time}
-use Rattle.hsr_previous.specs.Ready.{HaveCome}
+use Rattle.hsr_recent_table.specs.Ready.{HaveCome}
 use Rattle.hsr_sightings.specs.Finding.{AreFound}
 use Rattle.hsr_sightings.proofs.Gathering.{sighting_keys}
 use Rattle.hsr_sightings.proofs.sighting.sightings_of.Given as goal

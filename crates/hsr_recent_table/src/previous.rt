@@ -1,16 +1,16 @@
 //! The previous thing with the same key.
 ghost use Rattle.std.specs.Prelude.{◌≡◌, ℕ, ◌+◌, ◌≤◌, ◌∷◌, List, slice_get, IfOk, OnOk, Some};
 ghost use Rattle.hsr_recent_table.specs.Recent.{Knows, Put, horizon_of, moment_of};
-ghost use Rattle.hsr_previous.specs.Previous.{AreInTime, IsPreviousOf};
-ghost use Rattle.hsr_previous.specs.declared.previous.Keyed.{Keyed};
-ghost use Rattle.hsr_previous.specs.Ready.{HaveCome, IsReady, latest_of, put_for};
+ghost use Rattle.hsr_recent_table.specs.Previous.{AreInTime, IsPreviousOf};
+ghost use Rattle.hsr_recent_table.specs.declared.previous.Keyed.{Keyed};
+ghost use Rattle.hsr_recent_table.specs.Ready.{HaveCome, IsReady, latest_of, put_for};
 
+use crate::table::RecentTable;
 use hsr_frame::NoMemory;
-use hsr_recent_table::RecentTable;
 use std::alloc::Global;
 
 /// A thing with a moment and a key.
-#[derive(Clone, Copy, Debug, PartialEq, Eq)]
+#[derive(Clone, Copy, PartialEq, Eq)]
 pub struct Keyed {
     pub at: u64,
     pub key: u64,

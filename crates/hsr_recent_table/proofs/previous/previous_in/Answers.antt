@@ -1,6 +1,6 @@
 use Rattle.hsr_recent_table.specs.Recent.{horizon_of, latest, moment_of}
-use Rattle.hsr_previous.proofs.Telling.{told_is}
-use Rattle.hsr_previous.proofs.previous.previous_in.Goals as goal
+use Rattle.hsr_recent_table.proofs.Telling.{told_is}
+use Rattle.hsr_recent_table.proofs.previous.previous_in.Goals as goal
 
 pub returns : goal.returns
 returns c = λ horizon i at things puts ready later.

@@ -2,9 +2,9 @@
 use Rattle.std.specs.Prelude.{ℕ, ◌≡◌, ◌<◌, ◌≤◌, List, slice_get, Option, Some, None}
 use Rattle.hsr_recent_table.specs.Recent.{Knows, Put, horizon_of, latest, moment_of}
 use Rattle.hsr_recent_table.specs.declared.table.RecentTable.{RecentTable}
-use Rattle.hsr_previous.specs.declared.previous.Keyed.{Keyed}
-use Rattle.hsr_previous.specs.declared.previous.Previous.{Previous}
-use Rattle.hsr_previous.specs.Previous.{EachMoment, HasOther, IsLatestBefore}
+use Rattle.hsr_recent_table.specs.declared.previous.Keyed.{Keyed}
+use Rattle.hsr_recent_table.specs.declared.previous.Previous.{Previous}
+use Rattle.hsr_recent_table.specs.Previous.{EachMoment, HasOther, IsLatestBefore}
 
 -- what is put for a thing: its moment, its key and its index
 abbrev pub put_for : Keyed → ℕ → Put

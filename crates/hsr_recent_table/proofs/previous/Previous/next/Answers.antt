@@ -1,7 +1,7 @@
 use Rattle.std.proofs.Common.{◌∷◌}
-use Rattle.hsr_previous.specs.Ready.{put_for}
-use Rattle.hsr_previous.proofs.Telling.{one_more_ready}
-use Rattle.hsr_previous.proofs.previous.Previous.next.Goals as goal
+use Rattle.hsr_recent_table.specs.Ready.{put_for}
+use Rattle.hsr_recent_table.proofs.Telling.{one_more_ready}
+use Rattle.hsr_recent_table.proofs.previous.Previous.next.Goals as goal
 
 pub returns-clause-found : goal.returns-clause-found
 returns-clause-found c = λ horizon things come. c.previous_in-previous.ensures horizon c.args.i c.args.thing.at things come.0 come.1 c.requires

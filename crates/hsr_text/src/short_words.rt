@@ -1,8 +1,4 @@
 //! Words of a few octets, as most words of a line are.
-//!
-//! `word` of hsr_text looks at many octets at once, which takes longer to begin than such a word takes to end.
-#![tactic(auto)]
-
 ghost use Rattle.std.specs.Prelude.{◌≡◌, option_map};
 ghost use Rattle.hsr_text.specs.Words.{cut, word_at};
 
@@ -25,6 +21,7 @@ pub fn short_word(rest: Option<&[u8]>) -> Option<(&[u8], Option<&[u8]>)>
         ≡ word_at (option_map (λ s. s.now) rest.entry) }
 {
     match rest {
+        // No search by many octets at once, as `word` has: that takes longer to begin than a short word takes to end.
         Some(text) => Some(cut_near(text)),
         None => None,
     }

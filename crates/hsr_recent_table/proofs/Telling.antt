@@ -4,9 +4,9 @@ use Rattle.std.specs.Prelude.{nat_eq, IfNone, IfSome, option_map, slice_get}
 use Rattle.std.proofs.lemmas.Bool.{eqb-true, eqb-false}
 use Rattle.hsr_recent_table.specs.Recent.{Knows, Put, horizon_of, latest, moment_of, value_of}
 use Rattle.hsr_recent_table.specs.declared.table.RecentTable.{RecentTable}
-use Rattle.hsr_previous.specs.declared.previous.Keyed.{Keyed}
-use Rattle.hsr_previous.specs.Previous.{HasOther, IsLatestBefore, IsPreviousOf}
-use Rattle.hsr_previous.specs.Ready.{IsReady, IsTold, IsToldBy, put_for}
+use Rattle.hsr_recent_table.specs.declared.previous.Keyed.{Keyed}
+use Rattle.hsr_recent_table.specs.Previous.{HasOther, IsLatestBefore, IsPreviousOf}
+use Rattle.hsr_recent_table.specs.Ready.{IsReady, IsTold, IsToldBy, put_for}
 
 pub there : {X : Type 0} (xs : List X) (i : ℕ) (x : X) → i < length xs → x ≡ get_or xs i x → slice_get xs i ≡ Some x
 there [] i x lt is = absurd (omega (arith, lt))

@@ -2,7 +2,7 @@
 --     IsPreviousOf   what is found for a thing at an index: the index of the latest one before it that has its key; or nothing,
 --                    where each of them is a horizon older or more
 use Rattle.std.specs.Prelude.{ℕ, ◌≡◌, ◌≢◌, ◌+◌, ◌<◌, ◌≤◌, List, slice_get, Option, Some, None}
-use Rattle.hsr_previous.specs.declared.previous.Keyed.{Keyed}
+use Rattle.hsr_recent_table.specs.declared.previous.Keyed.{Keyed}
 
 -- the thing at an index has a key
 pub record HasKey (things : List Keyed) (key k : ℕ) : Type 0 where

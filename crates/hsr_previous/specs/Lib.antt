@@ -1,2 +1,0 @@
-pub mod Previous
-pub mod Ready
