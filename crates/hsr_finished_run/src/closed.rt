@@ -50,7 +50,7 @@ impl<const C: usize> Closed<C> {
     ghost use Rattle.hsr_node.specs.Counts.{counters};
     ghost use Rattle.hsr_finished_run.specs.Checked.{Agrees, HasNoStorm, IfDisagree, IsFirst};
     ghost use Rattle.hsr_finished_run.specs.Finished.{run_of};
-    ghost use Rattle.hsr_finished_run.specs.OfRecords.{IsClosedOf, IsOpenOf};
+    ghost use Rattle.hsr_finished_run.specs.OfRecords.{AllAgreeOf, IsClosedOf, IsOpenOf};
 
     /// The run of these parts, if they agree: if `C` is from 1 to 65535, records, rows and receipts tell the same, and
     /// nothing is under way. Else the parts come back as they were, with the first cause, which is there exactly where
@@ -149,6 +149,32 @@ impl<const C: usize> Closed<C> {
                     plan,
                 })
             }
+        }
+    }
+
+    /// The run of these records, which are known to agree with the passes that they and the plan tell, whatever these are: nothing
+    /// is compared. It is for who has played the run itself, and so knows what holds of all that was played.
+    #[tactic(auto, using(crate::proofs::OfRecords::calm_of, crate::proofs::OfRecords::closed_of))]
+    pub fn known(records: Records<C>) -> Closed<C>
+        requires agree { AllAgreeOf C records.topology records.kept.items records.rows.items
+            records.plan.items }
+        ensures closed { IsClosedOf C records.entry.topology records.entry.kept.items
+            records.entry.rows.items records.entry.plan.items result }
+        ensures no_storm { HasNoStorm result.run }
+    {
+        // What it answers isn't used: its contract says that links are wired as a topology's, which holds of a finished run.
+        let _ = records.topology.places();
+        let Records {
+            topology,
+            plan,
+            kept,
+            rows,
+        } = records;
+        Closed {
+            topology,
+            kept,
+            rows,
+            plan,
         }
     }
 

@@ -41,6 +41,7 @@ mod workers;
 pub use closed::Closed;
 pub use disagree::{CheckFault, Disagree};
 pub use ends::{from_end, to_end};
+pub use links_agree::is_noisy;
 pub use listing::push_if;
 pub use next::{first_places, next_place};
 pub use parts::Parts;

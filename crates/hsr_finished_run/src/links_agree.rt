@@ -104,8 +104,8 @@ pub(crate) fn first_other<const C: usize>(
     Ok(None)
 }
 
-/// Whether a copy waits.
-fn is_noisy(rows: &[Row]) -> bool
+/// Whether one of these copies waits to be taken.
+pub fn is_noisy(rows: &[Row]) -> bool
     ensures { result ≡ is_noisy rows.now }
 {
     rows.iter().any(|row| row.fate == Fate::Queued)

@@ -22,7 +22,7 @@ use Rattle.hsr_finished_run.specs.Finished as finished
 use Rattle.hsr_finished_run.specs.InOrder.{came}
 use Rattle.hsr_topology.specs.Links.{is_end_of, is_same_end, is_used}
 use Rattle.hsr_run_laws.specs.Once.{IsCalm}
-use Rattle.hsr_finished_run.specs.OfRecords.{ArePassesOf}
+use Rattle.hsr_finished_run.specs.OfRecords.{AllAgreeOf, ArePassesOf}
 use Rattle.hsr_finished_run.specs.Passes.{IsToldBy}
 use Rattle.hsr_finished_run.specs.Receipts.{HasReceipts}
 use Rattle.hsr_run_laws.specs.Premises.{NumberedFirst}
@@ -41,7 +41,7 @@ use Rattle.hsr_finished_run.proofs.Forwards.{arrivals_of}
 use Rattle.hsr_run_laws.proofs.NoStorm.{no_storm}
 use Rattle.hsr_finished_run.proofs.Shaped.{from_there}
 use Rattle.hsr_world_laws.specs.Closing.{IsOwn, run_of}
-use Rattle.hsr_ring.specs.Ending.{AreRowsOf, IsToldClosed, IsToldOpen}
+use Rattle.hsr_ring.specs.Ending.{AreRowsOf, IsKnownOnceEnded, IsToldClosed, IsToldOpen}
 use Rattle.hsr_world_laws.specs.Lawful.{IsEnded, finished_of}
 use Rattle.hsr_world_laws.specs.Spans.{Span}
 use Rattle.hsr_world_laws.specs.Reached.{IsReached}
@@ -181,6 +181,10 @@ module _ (capacity : ℕ) (topology : Topology) (moment : ℕ) (kept : List Reco
     open_as (NotQuiet link) first = first.1
     open_as (cause.Receipts worker) first = absurd (first.1.4.here (receipts worker))
 
+  pub known : IsKnownOnceEnded capacity topology kept plan spans
+  unfolding AllAgreeOf
+  known quiet own rows of_links passes told = agrees rows passes of_links told (record { quiet = quiet; own = own })
+
   pub closed_is : (closed : Finished) → IsToldClosed capacity topology kept plan spans closed → closed ≡ finished_of capacity world
   closed_is closed c =
       let same = run_whole c.rows c.told.passes c.of_links c.told.told in
@@ -221,6 +225,9 @@ module _ (capacity : ℕ) (topology : Topology) (moment : ℕ) (kept : List Reco
     (tables : IsTableSize capacity) (wired : IsWired topology.places topology.links) (numbered : AreNumbered kept) (r : IsReached capacity topology.places topology.links w) where
   reached : IsReached capacity topology.places topology.links (world_of moment kept spans plan)
   reached = subst (IsReached capacity topology.places topology.links) (sym is) r
+
+  pub known_here : IsKnownOnceEnded capacity topology kept plan spans
+  known_here = known capacity topology moment kept spans plan tables wired numbered reached
 
   pub closes : (closed : Finished) → IsToldClosed capacity topology kept plan spans closed → Closes capacity w closed
   closes closed c = subst (λ (v : World). Closes capacity v closed) is (record {

@@ -2,15 +2,19 @@
 --     AreRowsOf     rows of links
 --     IsToldClosed  with such rows they are this finished run
 --     IsToldOpen    with such rows they are none, for this first cause
-use Rattle.std.specs.Prelude.{ℕ, ◌≡◌, List, map, Vec}
+--     IsKnownOnceEnded   where nothing is under way and nothing was injected, they agree with such rows
+use Rattle.std.specs.Prelude.{ℕ, ◌≡◌, false, List, map, Vec}
+use Rattle.std.specs.List.{list_any}
 use Rattle.std.specs.Global.{Global}
 use Rattle.hsr_node.specs.Kept.{Record}
 use Rattle.hsr_link.specs.declared.row.Row.{Row}
 use Rattle.hsr_finished_run.specs.Finished.{Finished, items_of}
-use Rattle.hsr_finished_run.specs.OfRecords.{IsClosedOf, IsOpenOf}
+use Rattle.hsr_finished_run.specs.OfRecords.{AllAgreeOf, IsClosedOf, IsOpenOf}
 use Rattle.hsr_topology.specs.Topology.{Topology}
 use Rattle.hsr_finished_run.specs.declared.disagree.Disagree.{Disagree}
 use Rattle.hsr_finished_run.specs.declared.planned.Planned.{Planned}
+use Rattle.hsr_world_laws.specs.Closing.{is_busy}
+use Rattle.hsr_world_laws.specs.Origin.{is_injected}
 use Rattle.hsr_world_laws.specs.Spans.{Span}
 use Rattle.hsr_world_links.specs.Parting.{rows_in}
 
@@ -26,3 +30,7 @@ pub record IsToldOpen (capacity : ℕ) (topology : Topology) (kept : List Record
   pub rows : List (Vec Row Global)
   pub of_links : AreRowsOf spans rows
   pub told : IsOpenOf capacity topology kept rows plan d
+
+abbrev pub IsKnownOnceEnded : ℕ → Topology → List Record → List Planned → List Span → Type 0
+IsKnownOnceEnded capacity topology kept plan spans = list_any is_busy spans ≡ false → is_injected spans ≡ false
+    → (rows : List (Vec Row Global)) → AreRowsOf spans rows → AllAgreeOf capacity topology kept rows plan

@@ -3,3 +3,4 @@ pub mod Places
 pub mod Ports
 pub mod Touched
 pub mod Apart
+pub mod Anywhere

@@ -9,9 +9,11 @@
 //! - `touching`: the links that touch a node
 //! - `hand`: what a receiving port holds
 //! - `giving`: what a new entry of a node gives to the spans
+//! - `ended`: whether a world has come to its end
 //! - `parting`: links apart from their rows, and with them again
 #![tactic(auto)]
 
+mod ended;
 mod giving;
 mod hand;
 mod lane;
@@ -22,6 +24,7 @@ mod spot;
 mod starting;
 mod touching;
 
+pub use ended::are_ended;
 pub use giving::{commit, prepare};
 pub use hand::{change_hand, clear};
 pub use lane::Lane;

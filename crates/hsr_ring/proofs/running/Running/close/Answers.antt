@@ -1,7 +1,13 @@
-use Rattle.std.proofs.Common.{map}
+use Rattle.std.proofs.Common.{arith, map}
 use Rattle.hsr_world_links.specs.Views.{span_view}
-use Rattle.hsr_ring.proofs.Ending.{closes, stays_open}
+use Rattle.hsr_ring.proofs.Ending.{closes, known_here, stays_open}
 use Rattle.hsr_ring.proofs.running.Running.close.Goals as goal
+
+pub closed_of-requires : goal.closed_of-requires
+closed_of-requires g c =
+    let own = c.self.inside in
+    let known = known_here g.row.C c.args.topology own.moment own.nodes.items (map span_view own.spans.items) own.plan.items c.args.self c.self.view_is c.requires.tables c.places.ensures.wired c.self.invariant c.requires.reached in
+    (omega arith, (omega arith, (omega arith, known)))
 
 pub returns-in-Ok-clause-closed : goal.returns-in-Ok-clause-closed
 returns-in-Ok-clause-closed g c =
