@@ -7,7 +7,6 @@ use hsr_node::{Carried, Event, Kept, NodeCell, Octets, Pass, Place, Probe};
 use std::alloc::Global;
 use std::marker::Sync;
 use std::sync::Wait;
-use std::test::Fail;
 use std::thread;
 use std::thread::Threads;
 
@@ -57,15 +56,15 @@ fn entries_of(kept: &Kept<4>, worker: u16) -> usize {
 }
 
 #[test]
-fn one_node_stepped_by_two_threads(rt: HostRuntime) -> Result<(), Fail> {
-    let cell = NodeCell::new(Kept::<4>::new(rt.alloc(), 0, danh())?);
+fn one_node_stepped_by_two_threads(rt: HostRuntime) {
+    let kept = Kept::<4>::new(rt.alloc(), 0, danh()).ok();
+    let cell = NodeCell::new(kept.expect(&rt, "room for a node"));
     let (one, other) = age_both(&rt, rt.alloc(), &cell);
     assert!(rt; one);
     assert!(rt; other);
     let kept = cell.into_kept();
     assert!(rt; entries_of(&kept, 1) == TURNS);
     assert!(rt; entries_of(&kept, 8) == TURNS);
-    Ok(())
 }
 
 // ---- a link
@@ -133,11 +132,11 @@ fn taken_on(link: &Link) -> usize {
 }
 
 #[test]
-fn copies_between_two_threads(rt: HostRuntime) -> Result<(), Fail> {
-    let cell = LinkCell::new(Link::new(rt.alloc(), 1)?);
+fn copies_between_two_threads(rt: HostRuntime) {
+    let link = Link::new(rt.alloc(), 1).ok();
+    let cell = LinkCell::new(link.expect(&rt, "room for a link"));
     let (back, forth) = exchange(&rt, rt.alloc(), &cell);
     assert!(rt; back);
     assert!(rt; forth);
     assert!(rt; taken_on(&cell.into_link()) == 2 * TURNS);
-    Ok(())
 }
