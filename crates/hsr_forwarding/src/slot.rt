@@ -1,5 +1,5 @@
 //! What one egress of a node remembers, if the node has it.
-ghost use Rattle.std.specs.Prelude.{◌≡◌, ◌≤◌, ◌<◌, ◌&&◌, not, IfOk};
+ghost use Rattle.std.specs.Prelude.{◌≡◌, ◌≤◌, ◌<◌, ◌&&◌, not, true, IfOk};
 ghost use Rattle.hsr_frame.specs.Counters.{step_limit};
 ghost use Rattle.hsr_duptable.specs.Table.{IsTableSize};
 
@@ -53,18 +53,18 @@ impl<const C: usize> TableSlot<C> {
         }
     }
 
-    /// Whether a frame that is wanted passes: where it isn't remembered. Then it is noted.
-    pub(crate) fn pass(&mut self, wanted: bool, key: Key, now: u64) -> bool
-        requires there { wanted ≡ (wanted && self.old.there) }
+    /// Whether a frame that is wanted here passes: where it isn't remembered. Then it is noted.
+    pub(crate) fn pass(&mut self, key: Key, now: u64) -> bool
+        requires there { self.old.there ≡ true }
         requires later { self.old.table.last ≤ now }
         requires room { self.old.table.noted < step_limit }
-        ensures passes { result ≡ (wanted && not (remembers self.old.table key now)) }
+        ensures passes { result ≡ not (remembers self.old.table key now) }
         ensures noted { self.new
             ≡ record self.old { table = after_pass C self.old.table result key now } }
     {
         match &mut self.table {
-            Some(table) => table.pass(wanted, key, now),
-            // Never wanted: what is wanted is among the egresses that are there.
+            Some(table) => table.pass(true, key, now),
+            // Never so: what is wanted is among the egresses that are there.
             None => false,
         }
     }

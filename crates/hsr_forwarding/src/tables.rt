@@ -70,11 +70,12 @@ impl<const C: usize> EgressTables<C> {
         ensures passes { result ≡ passes_of self.old exits key now }
         ensures noted { self.new ≡ after_passes C self.old result key now }
     {
-        let up = self.up.pass(exits.up, key, now);
-        let a = self.a.pass(exits.a, key, now);
-        let b = self.b.pass(exits.b, key, now);
-        let c = self.c.pass(exits.c, key, now);
-        let d = self.d.pass(exits.d, key, now);
+        // Only tables of egresses that want it are asked: two of five, mostly.
+        let up = exits.up && self.up.pass(key, now);
+        let a = exits.a && self.a.pass(key, now);
+        let b = exits.b && self.b.pass(key, now);
+        let c = exits.c && self.c.pass(key, now);
+        let d = exits.d && self.d.pass(key, now);
         Exits { up, a, b, c, d }
     }
 

@@ -105,8 +105,8 @@ fn forwarded(
     }
 }
 
-/// Whether something leaves by a port.
-fn is_left_by(outcome: &Outcome, port: u8) -> bool
+/// Whether something leaves by a port after an event with this outcome.
+pub fn is_left_by(outcome: &Outcome, port: u8) -> bool
     ensures { result ≡ unwrap_or (slice_get (ports_of outcome.now) port) false }
 {
     let port = usize::from(port);

@@ -44,7 +44,7 @@ mod units;
 
 pub use cell::NodeCell;
 pub use copies::{
-    FrameOctets, copy_out, plain_octets, ring_octets, spelled_out, spelled_up, up_out,
+    FrameOctets, copy_out, is_left_by, plain_octets, ring_octets, spelled_out, spelled_up, up_out,
 };
 pub use entry::{Entry, Receipt};
 pub use event::{Carried, Event, Outcome, Probe, StepFault};

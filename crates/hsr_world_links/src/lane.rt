@@ -4,7 +4,7 @@ ghost use Rattle.hsr_world_links.specs.Giving.{IsReady, given_lane, receipt_of};
 ghost use Rattle.hsr_world_links.specs.Views.{lane_view};
 
 use hsr_frame::{MAX_FRAME, NoMemory};
-use hsr_node::{Carried, Entry, Event, Octets, Place, Probe, spelled_out};
+use hsr_node::{Carried, Entry, Event, Octets, Place, Probe, is_left_by, spelled_out};
 use hsr_tag::Spelled;
 use hsr_topology::End;
 use std::alloc::Global;
@@ -61,12 +61,17 @@ fn leaving(alloc: Global, room: &mut Vec<u8>, event: &Event, copy: &Spelled<'_>)
 }
 
 /// The copy that leaves its node by a lane joins its outbox; `here` names the entry.
+#[tactic(auto, unfolding(hsr_node::specs::Copies::copy_octets))]
 fn add_copy(alloc: Global, lane: &mut Lane, place: &Place, here: Probe, entry: &Entry)
     requires node { lane.old.from.node ≡ here.node }
     requires ready { IsReady here.node lane.old }
     ensures { lane_view lane.new ≡ given_lane place.now (receipt_of here entry.now)
         (lane_view lane.old) }
 {
+    // Asked first: of an arrival that goes on, nothing leaves by the port of the other lane, and nothing is formed for it.
+    if !is_left_by(&entry.outcome, lane.from.port) {
+        return;
+    }
     let Some(copy) = spelled_out(place, &entry.event, &entry.outcome, lane.from.port) else {
         return;
     };
