@@ -24,5 +24,5 @@ mod windows;
 pub use law::legal_with_needed;
 pub use most::Needed;
 pub use needing::{needed, needed_at};
-pub use reading::{Reading, hear, read};
+pub use reading::{Reading, hear, noted_at, read};
 pub use windows::{most_crowded, most_of};

@@ -68,7 +68,7 @@ fn is_numbered(seen: &Result<SeenView<'_>, FrameFault>, seq: Option<u16>) -> boo
 
 /// Where what has this outcome is noted, if it has a number: where it left, and on an interlink too if it came from
 /// there and got its number.
-fn noted_at(outcome: &Outcome) -> Exits
+pub fn noted_at(outcome: &Outcome) -> Exits
     ensures { result ≡ noted_at outcome.now }
 {
     let (up, ports, is_given) = match outcome {
