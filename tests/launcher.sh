@@ -232,7 +232,8 @@ try_build() {
     "$(call "${bench[@]}")"
 }
 
-# tools/gate calls rt as it is; only that of kit 13b is loaded, and then asks once for each crate, also where it works on a copy of one.
+# tools/gate calls rt as it is; only those of kits 13b and 13f are loaded, and then ask once for each crate, also where they work on a
+# copy of one: that of 13f still sums up each time.
 try_gate() {
   mkdir "$work/forgets"
   cat >"$work/forgets/rt" <<'RT'
@@ -275,6 +276,8 @@ if __name__ == "__main__":
 RT
   chmod +x "$work/forgets/rt"
   is 'the gate of a kit that forgets' 'ci one two one two 4 = 5' "$(call env PATH="$work/forgets:$PATH" "$tree/tools/gate")"
+  sed -i 's/rattle-kit-13b/rattle-kit-13f/' "$work/forgets/rt"
+  is 'the gate of a kit that forgets what stands below' 'ci one two one two 6 = 5' "$(call env PATH="$work/forgets:$PATH" "$tree/tools/gate")"
   is 'the gate of another kit' '0 passed, 1 failed = 1' "$(cd "$work" && call with_kit "$tree/tools/gate")"
 }
 
