@@ -1,6 +1,7 @@
 -- Hexadecimal digits, read and written by arithmetic.
 use Rattle.std.proofs.Common.{ℕ, zero, suc, ◌≡◌, ◌+◌, ◌-◌, ◌*◌, ◌<◌, ◌≤◌, ◌/◌, ◌%◌, ◌==◌, ◌&&◌, ◌∙◌, Bool, true, false, Option, None, Some, Result, Ok, Err, List, [], ◌∷◌, ◌++◌, length, take, drop, slice_index, slice_set, bit_and, refl, sym, ap, arith}
-use Rattle.std.proofs.lemmas.Nat.{and_mask}
+use Rattle.std.proofs.lemmas.Nat.{and_block, and_mask}
+use Rattle.std.proofs.lemmas.Nat.Bits.{and_pow}
 use Rattle.std.proofs.lemmas.Bool.Decides.{nat_tests}
 use Rattle.std.proofs.lemmas.List.{append_assoc, append-nil, drop_all, drop_more, take_all, take_more_set}
 use Rattle.std.specs.Char.{is_ascii_hexdigit}
@@ -31,10 +32,8 @@ high_digit n low lt =
 -- ---- reading
 
 -- a digit among its kinds
-pub value_is : (c : ℕ) → c < 256 → is_ascii_hexdigit c ≡ true → hex_digit_value c ≡ Some (bit_and c 15 + c / 64 * 9)
-value_is c room e =
-    let bits : bit_and c 15 ≡ c % 16 = and_mask c 4 in
-    rw bits (grind (arith, nat_tests, e))
+pub value_is : (c : ℕ) → c < 256 → is_ascii_hexdigit c ≡ true → hex_digit_value c ≡ Some (c % 16 + c / 64 % 2 * 9)
+value_is c room e = grind (arith, nat_tests, e)
 
 pub other : (c : ℕ) → is_ascii_hexdigit c ≡ false → hex_digit_value c ≡ None
 other c e = grind (arith, nat_tests, e)
@@ -43,13 +42,29 @@ other c e = grind (arith, nat_tests, e)
 pub small : (c v : ℕ) → hex_digit_value c ≡ Some v → v < 16
 small c v e = grind (arith, nat_tests, e)
 
-pub pair_spells : (high low x y i : ℕ) → hex_digit_value high ≡ Some x → hex_digit_value low ≡ Some y → pair_value high low i ≡ Ok (bit_and (x * 16 + y) 255)
-pair_spells high low x y i e f =
-    let a = small high x e in
-    let b = small low y f in
-    let bits : bit_and (x * 16 + y) 255 ≡ (x * 16 + y) % 256 = and_mask (x * 16 + y) 8 in
-    let v : (x * 16 + y) % 256 ≡ x * 16 + y = omega arith in
-    rw (e, f, bits, v) refl
+-- a mask of two octets that are alike masks each octet
+masked : (mask high low : ℕ) → mask < 256 → high < 256 → bit_and (low * 256 + high) (mask * 256 + mask) ≡ bit_and low mask * 256 + bit_and high mask
+masked mask high low narrow room = and_block 8 low mask high mask room narrow
+
+-- two values below 16, each the low bits of a digit and 9 more for a letter, are one octet
+one_octet : (p q s t : ℕ) → p + s * 9 < 16 → q + t * 9 < 16
+    → (q * 256 + p + (t * 64 * 256 + s * 64) / 8 + (t * 64 * 256 + s * 64) / 8 / 8) * 4097 % 65536 / 256 ≡ (p + s * 9) * 16 + (q + t * 9)
+one_octet p q s t high low = omega arith
+
+pub pair_spells : (high low pair i : ℕ) → high < 256 → low < 256 → pair ≡ low * 256 + high
+    → is_ascii_hexdigit high ≡ true → is_ascii_hexdigit low ≡ true
+    → pair_value high low i ≡ Ok ((bit_and pair 3855 + bit_and pair 16448 / 8 + bit_and pair 16448 / 8 / 8) * 4097 % 65536 / 256)
+pair_spells high low pair i h l both e f =
+    let a = value_is high h e in
+    let b = value_is low l f in
+    let high_bits : bit_and high 15 ≡ high % 16 = and_mask high 4 in
+    let low_bits : bit_and low 15 ≡ low % 16 = and_mask low 4 in
+    let high_letter : bit_and high 64 ≡ high / 64 % 2 * 64 = and_pow high 6 in
+    let low_letter : bit_and low 64 ≡ low / 64 % 2 * 64 = and_pow low 6 in
+    let bits : bit_and pair 3855 ≡ low % 16 * 256 + high % 16 = rw both (masked 15 high low (omega arith) h ∙ rw (high_bits, low_bits) refl) in
+    let letters : bit_and pair 16448 ≡ low / 64 % 2 * 64 * 256 + high / 64 % 2 * 64 = rw both (masked 64 high low (omega arith) h ∙ rw (high_letter, low_letter) refl) in
+    let octet = one_octet (high % 16) (low % 16) (high / 64 % 2) (low / 64 % 2) (small high _ a) (small low _ b) in
+    rw (a, b, bits, letters, octet) refl
 
 -- ---- all of them
 

@@ -4,7 +4,7 @@ ghost use Rattle.std.specs.Char.{is_ascii_hexdigit};
 ghost use Rattle.std.specs.List.{list_all};
 ghost use Rattle.std.specs.Fmt.{decimal as decimal_text};
 ghost use Rattle.std.specs.Result.{result_ok};
-ghost use Rattle.hex.specs.Hex.{decode_of, decode_pairs, encode_upper, hex_digit_value, pair_value, upper_digits};
+ghost use Rattle.hex.specs.Hex.{decode_of, decode_pairs, encode_upper, pair_value, upper_digits};
 ghost use Rattle.hsr_text.specs.Words.{Gives, cut, decimal_of, hex_octets_of, hex_pair_of, mac_text, word_at};
 
 use hex::FromHex;
@@ -87,27 +87,18 @@ fn are_digits(digits: &[u8]) -> bool
     all
 }
 
-/// The number that a hexadecimal digit of either case spells. The low bits of a letter are its place from 1, and a letter has a bit
-/// that a number lacks.
-#[tactic(auto, using(crate::proofs::HexDigits::value_is))]
-fn nibble(digit: u16) -> u16
-    requires { digit < 256 }
-    ensures value { is_ascii_hexdigit digit ≡ true → hex_digit_value digit ≡ Some result }
-    ensures room { result < 64 }
-{
-    (digit & 0xF) + (digit >> 6) * 9
-}
-
 /// The octet that two hexadecimal digits of either case spell.
-#[tactic(auto, using(crate::proofs::HexDigits::pair_spells))]
 fn octet_of(high: u8, low: u8) -> u8
     ensures { (i : ℕ) → is_ascii_hexdigit high ≡ true → is_ascii_hexdigit low ≡ true
         → pair_value high low i ≡ Ok result }
 {
-    // Both at once, since vectors read what stands together: two octets on their own are taken one by one.
-    let pair = u16::from_be_bytes([high, low]);
-    // Cut to an octet: of other characters it means nothing, and nobody asks for it.
-    ((nibble(pair >> 8) * 16 + nibble(pair & 0xFF)) & 0xFF) as u8
+    // Both at once, each in an octet of one number, since vectors read what stands together.
+    let pair = u16::from_le_bytes([high, low]);
+    // The low bits of a letter are its place from 1, and a letter has a bit that a number lacks: 9 more is its value.
+    let eights = (pair & 0x4040) >> 3;
+    let values = (pair & 0x0F0F) + eights + (eights >> 3);
+    // The first value goes four bits above the second. Of other characters this means nothing, and nobody asks for it.
+    (values.wrapping_mul(0x1001) >> 8) as u8
 }
 
 /// Fills a slice with the octets that pairs of hexadecimal digits spell.
