@@ -3,36 +3,101 @@ use Rattle.std.proofs.Common.{ℕ, zero, suc, ◌≡◌, ◌+◌, ◌-◌, ◌*�
 use Rattle.std.proofs.lemmas.Nat.{and_block, and_mask}
 use Rattle.std.proofs.lemmas.Nat.Bits.{and_pow}
 use Rattle.std.proofs.lemmas.Bool.Decides.{nat_tests}
-use Rattle.std.proofs.lemmas.List.{append_assoc, append-nil, drop_all, drop_more, take_all, take_more_set}
+use Rattle.std.proofs.lemmas.List.{append_assoc, append-nil, drop-drop, drop_all, drop_more, length-take-le, take-append-drop, take-append-le, take-take, take_all, take_at, take_more_set}
 use Rattle.std.specs.Char.{is_ascii_hexdigit}
 use Rattle.std.specs.List.{list_all}
 use Rattle.std.proofs.lemmas.List.Sums.{AllPass-from_list_all}
 use Rattle.std.specs.Result.{result_ok}
-use Rattle.hex.specs.Hex.{decode_of, decode_pairs, hex_digit_value, pair_value, upper_digits}
+use Rattle.std.specs.Int.{to_le_bytes, w16}
+use Rattle.hex.specs.Hex.{decode_of, decode_pairs, encode_upper, encode_with, hex_digit_value, pair_value, upper_digits}
 use Rattle.hex.specs.declared.error.FromHexError.{FromHexError}
-use Rattle.hex.proofs.Pairs.{cons_byte, decode_pairs-ok_pair, drop-pair}
+use Rattle.hex.proofs.Pairs.{cons_byte, decode_pairs-ok_pair, drop-pair, encode_step}
+use Rattle.hex.proofs.HexLemmas.{length-encode_with}
+use borrow.Rule.Slice.PartMut.{post_of, put_mid}
 use Rattle.hsr_text.proofs.Cuts.{none≢some}
 use Rattle.hsr_frame.proofs.UpTo.{UpTo, each_up_to}
 
+-- a mask of two octets that are alike masks each octet
+masked : (mask first second : ℕ) → mask < 256 → first < 256 → bit_and (second * 256 + first) (mask * 256 + mask) ≡ bit_and second mask * 256 + bit_and first mask
+masked mask first second narrow room = and_block 8 second mask first mask room narrow
+
 -- ---- writing
 
-pub low_digit : (n : ℕ) → n < 10 → n + 48 ≡ slice_index upper_digits n
+digit_is : (n : ℕ) → n < 16 → n + 48 + (n + 6) / 16 * 7 ≡ slice_index upper_digits n
 unfolding UpTo
-low_digit n lt = each_up_to (λ k. k + 48 ≡ slice_index upper_digits k) 10 (refl, (refl, (refl, (refl, (refl, (refl, (refl, (refl, (refl, (refl, tt)))))))))) n lt
+digit_is n lt =
+    each_up_to (λ k. k + 48 + (k + 6) / 16 * 7 ≡ slice_index upper_digits k) 16
+    (refl, (refl, (refl, (refl, (refl, (refl, (refl, (refl, (refl, (refl, (refl, (refl, (refl, (refl, (refl, (refl, tt)))))))))))))))) n lt
 
-above : (k : ℕ) → k < 6 → k + 65 ≡ slice_index upper_digits (10 + k)
-unfolding UpTo
-above k lt = each_up_to (λ k. k + 65 ≡ slice_index upper_digits (10 + k)) 6 (refl, (refl, (refl, (refl, (refl, (refl, tt)))))) k lt
+-- what is added to both values at once is added to each
+added : (a b : ℕ) → a < 16 → b < 16
+    → b * 256 + a + 12336 + ((b + 6) / 16 % 2 * 16 * 256 + (a + 6) / 16 % 2 * 16) / 2 - ((b + 6) / 16 % 2 * 16 * 256 + (a + 6) / 16 % 2 * 16) / 2 / 8
+    ≡ (b + 48 + (b + 6) / 16 * 7) * 256 + (a + 48 + (a + 6) / 16 * 7)
+added a b high low = omega arith
 
-pub high_digit : (n : ℕ) → 10 ≤ n → n < 16 → n - 10 + 65 ≡ slice_index upper_digits n
-high_digit n low lt =
-    let same : 10 + (n - 10) ≡ n = omega arith in
-    above (n - 10) (omega arith) ∙ ap (slice_index upper_digits) same
+two_octets : (v a b : ℕ) → v ≡ b * 256 + a → a < 256 → b < 256 → to_le_bytes w16 v ≡ a ∷ b ∷ []
+two_octets v a b is first second =
+    let x : v % 256 ≡ a = omega arith in
+    let y : v / 256 % 256 ≡ b = omega arith in
+    rw (x, y) refl
+
+pub digits_written : (octet same : ℕ) → octet < 256 → same ≡ octet
+    → to_le_bytes w16 (same * 4097 % 65536 / 16 + 12336 + bit_and (same * 4097 % 65536 / 16 + 1542) 4112 / 2 - bit_and (same * 4097 % 65536 / 16 + 1542) 4112 / 2 / 8)
+    ≡ encode_upper (octet ∷ [])
+unfolding encode_with
+digits_written octet same room is =
+    let high : octet / 16 < 16 = omega arith in
+    let low : octet % 16 < 16 = omega arith in
+    let values : octet * 4097 % 65536 / 16 ≡ octet % 16 * 256 + octet / 16 = omega arith in
+    let six : octet % 16 * 256 + octet / 16 + 1542 ≡ (octet % 16 + 6) * 256 + (octet / 16 + 6) = omega arith in
+    let first_letter : bit_and (octet / 16 + 6) 16 ≡ (octet / 16 + 6) / 16 % 2 * 16 = and_pow (octet / 16 + 6) 4 in
+    let second_letter : bit_and (octet % 16 + 6) 16 ≡ (octet % 16 + 6) / 16 % 2 * 16 = and_pow (octet % 16 + 6) 4 in
+    let letters : bit_and ((octet % 16 + 6) * 256 + (octet / 16 + 6)) 4112 ≡ (octet % 16 + 6) / 16 % 2 * 16 * 256 + (octet / 16 + 6) / 16 % 2 * 16
+    = masked 16 (octet / 16 + 6) (octet % 16 + 6) (omega arith) (omega arith) ∙ rw (first_letter, second_letter) refl in
+    rw (is, values, six, letters, added (octet / 16) (octet % 16) high low)
+    (two_octets _ (octet / 16 + 48 + (octet / 16 + 6) / 16 * 7) (octet % 16 + 48 + (octet % 16 + 6) / 16 * 7) refl (omega arith) (omega arith)
+    ∙ rw (digit_is (octet / 16) high, digit_is (octet % 16) low) refl)
+
+pub writes_next : (octets digits pair : List ℕ) (i : ℕ) → i < length octets → 2 * i + 1 < length digits → pair ≡ encode_upper (slice_index octets i ∷ [])
+    → take (2 * i) digits ++ encode_upper (drop i octets) ≡ encode_upper octets
+    → take (2 * (i + 1)) (slice_set (slice_set digits (2 * i) (slice_index pair 0)) (2 * i + 1) (slice_index pair 1)) ++ encode_upper (drop (i + 1) octets)
+    ≡ encode_upper octets
+unfolding encode_with
+writes_next octets digits pair i fits room is before =
+    encode_step upper_digits octets digits i (slice_index pair 0) (slice_index pair 1) fits room (rw is refl) (rw is refl) before
+
+-- octets that are written in two parts
+parts : (table front back : List ℕ) → encode_with table (front ++ back) ≡ encode_with table front ++ encode_with table back
+unfolding encode_with
+parts table [] back = refl
+parts table (octet ∷ front) back = rw (parts table front back) refl
+
+front_of : (octets : List ℕ) (last whole : ℕ) → last ≤ whole → last ≤ length octets
+    → take (2 * last) (encode_upper (take whole octets)) ≡ encode_upper (take last octets)
+front_of octets last whole before fits =
+    let rest : List ℕ = drop last (take whole octets) in
+    let split : take last octets ++ rest ≡ take whole octets = ap (λ (l : List ℕ). l ++ rest) (sym (take-take last whole octets before)) ∙ take-append-drop last (take whole octets) in
+    let long : length (encode_upper (take last octets)) ≡ 2 * last = length-encode_with upper_digits (take last octets) ∙ ap (λ (n : ℕ). 2 * n) (length-take-le last octets fits) in
+    ap (λ (l : List ℕ). take (2 * last) (encode_upper l)) (sym split) ∙ ap (take (2 * last)) (parts upper_digits (take last octets) rest)
+    ∙ take_at (encode_upper (take last octets)) (encode_upper rest) (2 * last) long
+
+-- a last part that begins within the first writes some digits again
+pub overlapped : (octets digits first second : List ℕ) (last whole : ℕ) → last ≤ whole → whole ≤ length octets
+    → first ≡ encode_upper (take whole octets) → second ≡ encode_upper (drop last octets)
+    → put_mid (2 * last) (length (first ++ digits) - 2 * last) (first ++ digits) second ≡ encode_upper octets
+overlapped octets digits first second last whole before fits one two =
+    let long : length first ≡ 2 * whole = ap length one ∙ length-encode_with upper_digits (take whole octets) ∙ ap (λ (n : ℕ). 2 * n) (length-take-le whole octets fits) in
+    let room : 2 * last ≤ length first = omega (arith, long) in
+    let front : take (2 * last) (first ++ digits) ≡ encode_upper (take last octets)
+    = take-append-le (2 * last) first digits room ∙ ap (take (2 * last)) one ∙ front_of octets last whole before (omega arith) in
+    let none : post_of (2 * last) (length (first ++ digits) - 2 * last) (first ++ digits) ≡ []
+    = drop-drop (length (first ++ digits) - 2 * last) (2 * last) (first ++ digits) ∙ drop_all (2 * last + (length (first ++ digits) - 2 * last)) (first ++ digits) (omega arith) in
+    rw (front, none, append-nil, two) (sym (parts upper_digits (take last octets) (drop last octets)) ∙ ap encode_upper (take-append-drop last octets))
 
 -- ---- reading
 
 -- a digit among its kinds
-pub value_is : (c : ℕ) → c < 256 → is_ascii_hexdigit c ≡ true → hex_digit_value c ≡ Some (c % 16 + c / 64 % 2 * 9)
+value_is : (c : ℕ) → c < 256 → is_ascii_hexdigit c ≡ true → hex_digit_value c ≡ Some (c % 16 + c / 64 % 2 * 9)
 value_is c room e = grind (arith, nat_tests, e)
 
 pub other : (c : ℕ) → is_ascii_hexdigit c ≡ false → hex_digit_value c ≡ None
@@ -41,10 +106,6 @@ other c e = grind (arith, nat_tests, e)
 -- a digit spells a number below 16
 pub small : (c v : ℕ) → hex_digit_value c ≡ Some v → v < 16
 small c v e = grind (arith, nat_tests, e)
-
--- a mask of two octets that are alike masks each octet
-masked : (mask high low : ℕ) → mask < 256 → high < 256 → bit_and (low * 256 + high) (mask * 256 + mask) ≡ bit_and low mask * 256 + bit_and high mask
-masked mask high low narrow room = and_block 8 low mask high mask room narrow
 
 -- two values below 16, each the low bits of a digit and 9 more for a letter, are one octet
 one_octet : (p q s t : ℕ) → p + s * 9 < 16 → q + t * 9 < 16
@@ -74,7 +135,6 @@ one_digit_more digits i fits = ap (list_all is_ascii_hexdigit) (drop_more digits
 
 -- ---- pairs
 
--- what was read, and what is read of the rest
 -- what was read, before what is read of the rest
 abbrev pub behind : List ℕ → Option (List ℕ) → Option (List ℕ)
 behind front (Some rest) = Some (front ++ rest)

@@ -1,10 +1,10 @@
 //! The words of a line of text, and texts that grow by words.
-ghost use Rattle.std.specs.Prelude.{◌≡◌, ◌<◌, ◌≤◌, ◌*◌, ◌++◌, ℕ, None, Ok, Some, if◌then◌else◌, length, option_map, slice_index, true, OnErr, OnOk};
+ghost use Rattle.std.specs.Prelude.{◌≡◌, ◌*◌, ◌++◌, ℕ, None, Ok, Some, [], ◌∷◌, length, option_map, true, OnErr, OnOk};
 ghost use Rattle.std.specs.Char.{is_ascii_hexdigit};
 ghost use Rattle.std.specs.List.{list_all};
 ghost use Rattle.std.specs.Fmt.{decimal as decimal_text};
 ghost use Rattle.std.specs.Result.{result_ok};
-ghost use Rattle.hex.specs.Hex.{decode_of, decode_pairs, encode_upper, pair_value, upper_digits};
+ghost use Rattle.hex.specs.Hex.{decode_of, decode_pairs, encode_upper, pair_value};
 ghost use Rattle.hsr_text.specs.Words.{Gives, cut, decimal_of, hex_octets_of, hex_pair_of, mac_text, word_at};
 
 use hex::FromHex;
@@ -12,6 +12,9 @@ use hsr_frame::{Mac, NoMemory};
 use itoa::Buffer;
 use memchr::memchr;
 use std::alloc::Global;
+
+/// How many octets are written at once, by vectors.
+const BLOCK: usize = 8;
 
 /// Why a word isn't read.
 #[derive(Clone, Copy, PartialEq, Eq)]
@@ -187,13 +190,27 @@ pub fn put_hex(text: &mut Vec<u8>, octets: &[u8]) -> Result<(), NoMemory>
     Ok(())
 }
 
-/// The hexadecimal digit of a number below 16, in upper case.
-#[tactic(auto, using(crate::proofs::HexDigits::low_digit, crate::proofs::HexDigits::high_digit))]
-fn digit_of(n: u8) -> u8
-    requires { n < 16 }
-    ensures { result ≡ slice_index upper_digits n }
+/// The two hexadecimal digits of an octet, in upper case.
+fn digits_of(octet: u8) -> [u8; 2]
+    ensures { result ≡ encode_upper (octet ∷ []) }
 {
-    if n < 10 { n + b'0' } else { n - 10 + b'A' }
+    // Both at once, each in an octet of one number, as in `octet_of`: the high four bits, and above them the low ones.
+    let values = u16::from(octet).wrapping_mul(0x1001) >> 4;
+    // From ten on, 6 more reaches the bit of 16. There the digit is a letter, and its code is 7 more than a number's would be.
+    let eights = ((values + 0x0606) & 0x1010) >> 1;
+    (values + 0x3030 + eights - (eights >> 3)).to_le_bytes()
+}
+
+/// Fills a slice with the hexadecimal digits of octets, in upper case, from the first octet to the last.
+fn write_each(digits: &mut [u8], octets: &[u8])
+    requires { length digits.old ≡ 2 * length octets.now }
+    ensures { digits.new ≡ encode_upper octets.now }
+{
+    for i in 0..octets.len() {
+        let [high, low] = digits_of(octets[i]);
+        digits[2 * i] = high;
+        digits[2 * i + 1] = low;
+    }
 }
 
 /// Fills a slice with the hexadecimal digits of octets, in upper case.
@@ -201,9 +218,10 @@ fn write_hex(digits: &mut [u8], octets: &[u8])
     requires { length digits.old ≡ 2 * length octets.now }
     ensures { digits.new ≡ encode_upper octets.now }
 {
-    for i in 0..octets.len() {
-        let octet = octets[i];
-        digits[2 * i] = digit_of(octet >> 4);
-        digits[2 * i + 1] = digit_of(octet & 0xF);
-    }
+    // Whole blocks, and then the last block, of which some octets may be written a second time: one by one, each octet that is left
+    // over would take nearly as long as a block.
+    let whole = octets.len().saturating_sub(1) / BLOCK * BLOCK;
+    write_each(&mut digits[..2 * whole], &octets[..whole]);
+    let last = octets.len().saturating_sub(BLOCK);
+    write_each(&mut digits[2 * last..], &octets[last..]);
 }

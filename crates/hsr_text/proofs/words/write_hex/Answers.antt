@@ -1,15 +1,13 @@
-use Rattle.std.proofs.Common.{ℕ, ◌∙◌, ap, arith, slice_index}
-use Rattle.std.proofs.lemmas.Nat.{and_mask}
-use Rattle.hex.specs.Hex.{upper_digits}
-use Rattle.hex.proofs.Pairs.{encode_done, encode_step}
+use Rattle.std.proofs.Common.{ℕ, ◌*◌, ◌/◌, ◌∙◌, ap, arith, drop}
+use Rattle.std.proofs.lemmas.List.{take_rest}
+use Rattle.hex.specs.Hex.{encode_upper}
+use Rattle.hsr_text.proofs.HexDigits.{overlapped}
 use Rattle.hsr_text.proofs.words.write_hex.Goals as goal
-
-pub loop-i-preserved : goal.loop-i-preserved
-loop-i-preserved c =
-    let octet : ℕ = slice_index c.args.octets.now c.loop-i.i in
-    encode_step upper_digits c.args.octets.now c.loop-i.digits c.loop-i.i c.digit_of.result c.digit_of-in-loop-i.result (omega arith) (omega arith)
-    c.digit_of.ensures (c.digit_of-in-loop-i.ensures ∙ ap (λ (k : ℕ). slice_index upper_digits k) (and_mask octet 4)) c.loop-i.invariant
 
 pub returns : goal.returns
 returns c =
-    encode_done upper_digits c.args.octets.now c.loop-i.digits c.loop-i.i (omega arith) (omega arith) c.loop-i.invariant
+    let whole : ℕ = c.saturating_sub.result / 8 * 8 in
+    let last : ℕ = c.saturating_sub-last.result in
+    overlapped c.args.octets.now (drop (2 * whole) c.args.digits.now) c.write_each.new.digits c.write_each-2.new.digits
+    last whole (omega (arith, c.saturating_sub.ensures, c.saturating_sub-last.ensures)) (omega (arith, c.saturating_sub.ensures))
+    c.write_each.ensures (c.write_each-2.ensures ∙ ap encode_upper (take_rest c.args.octets.now last))
