@@ -1,8 +1,10 @@
 -- Bits that are set and cleared.
-use Rattle.std.proofs.Common.{◌≡◌, ◌⊎◌, ◌==◌, ◌<◌, ◌≤◌, ◌+◌, ◌*◌, ◌/◌, ◌%◌, ◌^◌, ℕ, Bool, true, false, List, length, Some, refl, ap, ap₂, sym, ◌∙◌, arith, eqb-true, eq-eqb, nat_lt, inl, inr, ⊎_elim, bit_or, bit_and, w64}
+use Rattle.std.proofs.Common.{◌≡◌, ◌⊎◌, ◌==◌, ◌<◌, ◌≤◌, ◌+◌, ◌*◌, ◌/◌, ◌%◌, ◌^◌, ℕ, Bool, true, false, List, length, Some, refl, ap, ap₂, sym, ◌∙◌, arith, eqb-true, eq-eqb, nat_lt, subst, inl, inr, ⊎_elim, bit_or, bit_and, w64}
 use Rattle.std.specs.Prelude.{if◌then◌else◌, slice_index_or}
 use Rattle.std.specs.Int.{bit_at, bit_not, trailing_zeros}
-use Rattle.std.proofs.lemmas.Nat.Bits.{bit_at_set_same, bit_at_set_other, bit_at_clear_same, bit_at_clear_other, bit_at-trailing_zeros}
+use Rattle.std.proofs.lemmas.Nat.Bits.{bit_at_set_same, bit_at_set_other, bit_at_clear_same, bit_at_clear_other, bit_at-trailing_zeros, bit_at-zero}
+use Rattle.std.proofs.lemmas.List.{get_or_past}
+use Rattle.std.proofs.lemmas.Nat.{le_or_l, le_or_r}
 use Rattle.hsr_bitset.specs.Numbers.{IsLowest, has, has_bit}
 
 -- a test of two numbers, and what it tells
@@ -66,3 +68,24 @@ lowest_word words i within some fits below = (
 
     first : (n : ℕ) → n < 64 * i + t → has words n ≡ false
     first n under = ⊎_elim (λ h. below n h) (λ h. here n h under) (nat_cases n (64 * i))
+
+-- ---- words that are zero
+
+-- what covers some words covers the next one too, with its bits
+pub more_words : (words : List ℕ) (n all : ℕ) → ((i : ℕ) → i < n → slice_index_or words i 0 ≤ all) →
+    (i : ℕ) → i < n + 1 → slice_index_or words i 0 ≤ bit_or all (slice_index_or words n 0)
+more_words words n all before i below =
+    ⊎_elim
+    (λ h. let first = before i h in let more = le_or_l all (slice_index_or words n 0) in omega (arith, first, more))
+    (λ h.
+    let same : n ≡ i = omega (arith, h, below) in
+    let P : ℕ → Type 0 = λ k. slice_index_or words k 0 ≤ bit_or all (slice_index_or words n 0) in
+    subst P same (le_or_r all (slice_index_or words n 0)))
+    (nat_cases i n)
+
+pub none_of : (words : List ℕ) (n all : ℕ) → length words ≤ n → ((i : ℕ) → i < n → slice_index_or words i 0 ≤ all) → all ≡ 0 → (m : ℕ) → has words m ≡ false
+none_of words n all last covers none m =
+    let word : slice_index_or words (m / 64) 0 ≡ 0 =
+    ⊎_elim (λ h. let low = covers (m / 64) h in let e : slice_index_or words (m / 64) 0 ≡ 0 = omega (arith, low, none) in e)
+    (λ h. get_or_past words (m / 64) 0 (omega (arith, last, h))) (nat_cases (m / 64) n) in
+    ap (λ w. has_bit w (m % 64)) word ∙ ap (λ b. b == 1) (bit_at-zero (m % 64))

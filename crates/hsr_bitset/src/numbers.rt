@@ -35,6 +35,18 @@ fn has_bit(word: u64, bit: usize) -> bool
     word >> bit & 1 == 1
 }
 
+/// Whether words have no number.
+fn are_empty(words: &[u64]) -> bool
+    ensures { result ≡ true → (n : ℕ) → has words.now n ≡ false }
+{
+    let mut all = 0;
+    for word in words {
+        // No branch in the loop, so that it is one of vectors.
+        all |= *word;
+    }
+    all == 0
+}
+
 /// The lowest number of these words, if there is one.
 fn lowest_of(words: &[u64]) -> Option<usize>
     requires { length words.now ≤ 8 }
@@ -90,6 +102,10 @@ impl Numbers {
     pub fn lowest(&self) -> Option<usize>
         ensures { IsLowest 512 self.now result }
     {
+        // Asked first: of the sets of a drain all but one are mostly empty.
+        if are_empty(&self.words) {
+            return None;
+        }
         lowest_of(&self.words)
     }
 }
