@@ -11,6 +11,7 @@ use Rattle.hsr_routes.specs.Networks.{AreGoingRound, HaveOwnAddresses, IsFirstUn
 use Rattle.hsr_routes.specs.Numbered.{is_in}
 use Rattle.hsr_routes.specs.Routes.{IsFree, IsLedTo, LeadsOver, bare, heading, sender_at}
 use Rattle.hsr_routes.specs.Routes as routes
+use Rattle.hsr_routes.proofs.Bare.{network_is}
 use Rattle.hsr_bitset.specs.Numbers.{has}
 use Rattle.hsr_audit.specs.Reaching.{AreReached, IsLossOf}
 
@@ -53,19 +54,6 @@ pub reached_is : (run : Run) (send : Probe) (frame : Fields) (set nodes : List �
 reached_is run send frame set nodes loss led k below =
     let both = led k below in
     (λ found. so_reached run send frame set loss k (both.0 found), λ reached. both.1 (so_led run send frame set loss k reached))
-
--- ---- nodes and links alone are a network where the run is
-
-network_is : (run : Run) → IsNetwork (bare run.places run.links) → IsNetwork run
-network_is run net = record {
-  modes = net.modes;
-  single = net.single;
-  differ = net.differ;
-  ends = λ channel below. let end = net.ends channel below in record { node = end.node; port = end.port };
-  sides = net.sides;
-  faces = net.faces;
-  apart = net.apart;
-}
 
 -- ---- what is told of nodes and links alone is told of the run
 

@@ -272,5 +272,5 @@ module _ (run : Run) (closed : IsClosed run) (net : IsNetwork run) (few : FewNum
               false≢true (sym (not-true _ parts.1) ∙ mine)
 
 pub counted_tells : CountedTells
-counted_tells run closed net first remembers few k below =
+counted_tells run closed net first few k below =
     knows_own run closed net few k below (past_of run k) (legal run closed net k below) (each_of_send run closed k below) (first k below) (all_own_at (past_of run k) (past_of run k) (λ n low. refl))

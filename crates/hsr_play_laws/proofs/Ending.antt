@@ -213,7 +213,7 @@ ends_well s n w setup clear played = ends_so s setup clear n w (tells_all s s.or
 pub ends_by_numbers : EndsByNumbers
 ends_by_numbers s n w setup clear played few =
     let e = ends_well s n w setup clear played in
-    let mistaken = counted_tells (run_in s w) e.closed e.network e.first e.forgotten few in
+    let mistaken = counted_tells (run_in s w) e.closed e.network e.first few in
     let once = once_in_network (run_in s w) e.closed e.network e.first e.forgotten mistaken in
     record {
       quiet = e.quiet;

@@ -6,3 +6,4 @@ pub mod Searching
 pub mod Spreading
 pub mod Ending
 pub mod Alike
+pub mod Bare

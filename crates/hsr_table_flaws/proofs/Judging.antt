@@ -16,7 +16,7 @@ use Rattle.hsr_node.specs.declared.event.Probe.{Probe}
 use Rattle.hsr_run_laws.specs.Premises.{KnowsOwn, Remembers, is_mistaken, is_note_of}
 use Rattle.hsr_table_demand.specs.Read.{wanted_in}
 use Rattle.hsr_table_demand.proofs.Walking.{is_wanted, wanted_is}
-use Rattle.hsr_table_flaws.specs.Looked.{any_wanted, came_in, forgets_of, mistakes_of}
+use Rattle.hsr_table_flaws.specs.Looked.{any_wanted, forgets_of, mistakes_of}
 use Rattle.hsr_table_flaws.specs.Places.{is_gone, is_mixed_up}
 
 -- ---- egresses

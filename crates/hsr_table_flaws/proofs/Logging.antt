@@ -28,7 +28,7 @@ use Rattle.hsr_table_flaws.proofs.Placing.{noted_up_to}
 
 -- ---- one more entry
 
-abbrev here_of : Owner → List Entry → Probe
+abbrev pub here_of : Owner → List Entry → Probe
 here_of owner past = record { node = owner.number; place = length past }
 
 -- what has no number isn't noted

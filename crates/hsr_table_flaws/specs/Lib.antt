@@ -1,3 +1,4 @@
 pub mod Places
 pub mod Looked
+pub mod Clear
 pub mod Flaws

@@ -2,6 +2,7 @@
 ghost use Rattle.std.specs.Prelude.{◌≡◌, IfOk};
 ghost use Rattle.hsr_table_flaws.specs.Flaws.{IsFirstFlaw, first_after};
 
+use crate::clear::is_clear;
 use crate::flaw::Flaw;
 use crate::looking::firsts_of;
 use hsr_finished_run::Closed;
@@ -33,6 +34,10 @@ pub fn first_flaw<const C: usize>(
 ) -> Result<Option<Flaw>, NoMemory>
     ensures { IfOk result (IsFirstFlaw closed.now.run) }
 {
+    // Mostly one look at each entry tells that there is none, so that no notes are gathered.
+    if is_clear(alloc, closed)? {
+        return Ok(None);
+    }
     let mut forgot: Option<(usize, usize)> = None;
     let mut mistaken: Option<(usize, usize)> = None;
     let mut late: Option<(usize, usize)> = None;

@@ -7,9 +7,11 @@
 //! - `marks`: what an egress noted
 //! - `log`: what a node noted and heard
 //! - `looking`: the first places of a record
+//! - `clear`: what tells at once that there is none
 //! - `flaws`: the first of all records, its call
 #![tactic(auto)]
 
+mod clear;
 mod flaw;
 mod flaws;
 mod keys;

@@ -6,6 +6,7 @@ use Rattle.std.proofs.lemmas.Bool.Decides.{nat_tests}
 use Rattle.std.proofs.lemmas.List.{append_assoc, append-nil, drop-drop, drop_all, drop_more, length-take-le, take-append-drop, take-append-le, take-take, take_all, take_at, take_more_set}
 use Rattle.std.specs.Char.{is_ascii_hexdigit}
 use Rattle.std.specs.List.{list_all}
+use Rattle.std.proofs.lemmas.List.Folds.{list_all-append}
 use Rattle.std.proofs.lemmas.List.Sums.{AllPass-from_list_all}
 use Rattle.std.specs.Result.{result_ok}
 use Rattle.std.specs.Int.{to_le_bytes, w16}
@@ -28,6 +29,13 @@ unfolding UpTo
 digit_is n lt =
     each_up_to (λ k. k + 48 + (k + 6) / 16 * 7 ≡ slice_index upper_digits k) 16
     (refl, (refl, (refl, (refl, (refl, (refl, (refl, (refl, (refl, (refl, (refl, (refl, (refl, (refl, (refl, (refl, tt)))))))))))))))) n lt
+
+-- the same by kinds, as words of digits in upper case are looked at
+pub low_digit : (n : ℕ) → n < 10 → n + 48 ≡ slice_index upper_digits n
+low_digit n lt = let same : n + 48 ≡ n + 48 + (n + 6) / 16 * 7 = omega arith in same ∙ digit_is n (omega arith)
+
+pub high_digit : (n : ℕ) → 10 ≤ n → n < 16 → n - 10 + 65 ≡ slice_index upper_digits n
+high_digit n low lt = let same : n - 10 + 65 ≡ n + 48 + (n + 6) / 16 * 7 = omega arith in same ∙ digit_is n lt
 
 -- what is added to both values at once is added to each
 added : (a b : ℕ) → a < 16 → b < 16
@@ -132,6 +140,27 @@ pair_spells high low pair i h l both e f =
 pub one_digit_more : (digits : List ℕ) (i : ℕ) → i < length digits
     → list_all is_ascii_hexdigit (drop i digits) ≡ (is_ascii_hexdigit (slice_index digits i) && list_all is_ascii_hexdigit (drop (i + 1) digits))
 one_digit_more digits i fits = ap (list_all is_ascii_hexdigit) (drop_more digits i 0 fits)
+
+-- in two parts
+split_all : (digits : List ℕ) (i : ℕ) → list_all is_ascii_hexdigit digits ≡ (list_all is_ascii_hexdigit (take i digits) && list_all is_ascii_hexdigit (drop i digits))
+split_all digits i = ap (list_all is_ascii_hexdigit) (sym (take-append-drop i digits)) ∙ list_all-append is_ascii_hexdigit (take i digits) (drop i digits)
+
+both_true : (x y : Bool) → (x && y) ≡ true → x ≡ true
+both_true true y e = refl
+both_true false y e = e
+
+pub first_part_bad : (digits : List ℕ) (whole : ℕ) → list_all is_ascii_hexdigit (take whole digits) ≡ false → list_all is_ascii_hexdigit digits ≡ false
+first_part_bad digits whole bad = rw (split_all digits whole, bad) refl
+
+-- a last part that begins within the first tests some digits again
+pub first_part_good : (digits : List ℕ) (last whole : ℕ) → last ≤ whole → list_all is_ascii_hexdigit (take whole digits) ≡ true
+    → list_all is_ascii_hexdigit (drop last digits) ≡ list_all is_ascii_hexdigit digits
+first_part_good digits last whole before good =
+    let whole_front : (list_all is_ascii_hexdigit (take last (take whole digits)) && list_all is_ascii_hexdigit (drop last (take whole digits))) ≡ true
+    = sym (split_all (take whole digits) last) ∙ good in
+    let front : list_all is_ascii_hexdigit (take last digits) ≡ true
+    = ap (list_all is_ascii_hexdigit) (sym (take-take last whole digits before)) ∙ both_true _ _ whole_front in
+    rw (split_all digits last, front) refl
 
 -- ---- pairs
 

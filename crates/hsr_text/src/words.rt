@@ -16,6 +16,9 @@ use std::alloc::Global;
 /// How many octets are written at once, by vectors.
 const BLOCK: usize = 8;
 
+/// How many digits are tested at once.
+const DIGIT_BLOCK: usize = 16;
+
 /// Why a word isn't read.
 #[derive(Clone, Copy, PartialEq, Eq)]
 pub enum WordFault {
@@ -77,9 +80,9 @@ pub fn hex_pair(word: &[u8]) -> Option<u16>
     }
 }
 
-/// Whether all of these are hexadecimal digits of either case. The loop has no branches, so that it is one of vectors.
+/// Whether each of these is a hexadecimal digit of either case. The loop has no branches, so that it is one of vectors.
 #[tactic(auto, using(crate::proofs::HexDigits::one_digit_more))]
-fn are_digits(digits: &[u8]) -> bool
+fn each_is_digit(digits: &[u8]) -> bool
     ensures { result ≡ list_all is_ascii_hexdigit digits.now }
 {
     let mut all = true;
@@ -88,6 +91,16 @@ fn are_digits(digits: &[u8]) -> bool
         all &= digit.is_ascii_hexdigit();
     }
     all
+}
+
+/// Whether all of these are hexadecimal digits of either case.
+fn are_digits(digits: &[u8]) -> bool
+    ensures { result ≡ list_all is_ascii_hexdigit digits.now }
+{
+    // In blocks, of which the last may overlap the one before it, as in `write_hex`.
+    let whole = digits.len().saturating_sub(1) / DIGIT_BLOCK * DIGIT_BLOCK;
+    let last = digits.len().saturating_sub(DIGIT_BLOCK);
+    each_is_digit(&digits[..whole]) && each_is_digit(&digits[last..])
 }
 
 /// The octet that two hexadecimal digits of either case spell.

@@ -1,4 +1,4 @@
-use Rattle.std.proofs.Common.{rules, ◌≡◌, ◌+◌, ◌≤◌, ℕ, Option, Some, None, length, sym, subst}
+use Rattle.std.proofs.Common.{rules, ◌≡◌, ◌+◌, ◌≤◌, ℕ, Option, length, sym, subst}
 use Rattle.hsr_run_laws.specs.Run.{Run}
 use Rattle.hsr_table_flaws.specs.Flaws.{IsFirstPlaceOf, Test}
 use Rattle.hsr_table_flaws.specs.Looked.{forgets_of, lates_of, mistakes_of}

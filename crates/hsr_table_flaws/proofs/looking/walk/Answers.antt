@@ -1,11 +1,11 @@
-use Rattle.std.proofs.Common.{rules, ◌≡◌, ◌+◌, ◌<◌, ℕ, Option, Bool, length, slice_index_or, refl, sym, ap, ◌∙◌, subst}
+use Rattle.std.proofs.Common.{rules, ◌≡◌, ◌+◌, ◌<◌, ℕ, Option, length, slice_index_or, refl, sym, ap, ◌∙◌, subst}
 use Rattle.hsr_node.specs.declared.entry.Entry.{Entry}
 use Rattle.hsr_node.specs.declared.event.Probe.{Probe}
 use Rattle.hsr_node.specs.declared.place.Place.{Place}
 use Rattle.hsr_run_laws.specs.Run.{Run, place_of, record_of}
 use Rattle.hsr_table_demand.proofs.Walking.{place_at}
 use Rattle.hsr_table_flaws.specs.Flaws.{IsFirstAt, test_at}
-use Rattle.hsr_table_flaws.specs.Looked.{IsLoggedAfter, came_in, forgets_by, forgets_of, is_late_by, lates_of, mistakes_by, mistakes_of, moment_of, read_by}
+use Rattle.hsr_table_flaws.specs.Looked.{IsLoggedAfter, came_in, forgets_by, forgets_of, lates_of, mistakes_by, mistakes_of, moment_of, read_by}
 use Rattle.hsr_table_flaws.proofs.Firsts.{first_more, walk_forgets, walk_late, walk_mistakes, walk_more}
 use Rattle.hsr_table_flaws.proofs.looking.walk.Goals as goal
 
