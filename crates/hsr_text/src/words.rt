@@ -128,9 +128,10 @@ fn fill_octets(octets: &mut [u8], digits: &[u8])
     }
 }
 
-/// The octets that pairs of hexadecimal digits of either case spell.
+/// The octets that pairs of hexadecimal digits of either case spell; no digits spell none. `Bad` where these are no such pairs,
+/// `Memory` if allocation fails.
 #[tactic(auto, using(crate::proofs::HexDigits::none_spelled))]
-fn pairs_of(alloc: Global, digits: &[u8]) -> Result<Vec<u8>, WordFault>
+pub fn decode_hex(alloc: Global, digits: &[u8]) -> Result<Vec<u8>, WordFault>
     ensures { Gives (λ v. v.items) result (result_ok (decode_of digits.now)) }
 {
     if digits.len() % 2 != 0 {
@@ -154,7 +155,7 @@ pub fn hex_octets(alloc: Global, word: &[u8]) -> Result<Vec<u8>, WordFault>
     match word {
         [] => Err(WordFault::Bad),
         [b'-'] => Ok(Vec::new(alloc)),
-        digits => pairs_of(alloc, digits),
+        digits => decode_hex(alloc, digits),
     }
 }
 
