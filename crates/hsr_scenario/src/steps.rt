@@ -21,11 +21,10 @@ use crate::links::{used_node, used_port};
 use crate::nodes::Named;
 use crate::table::only;
 use crate::words::{Deed, deed_of};
-use hex::FromHexError;
 use hsr_frame::{About, Mac};
 use hsr_link::Dir;
 use hsr_node::Octets;
-use hsr_text::TimeUnit;
+use hsr_text::{TimeUnit, WordFault, decode_hex};
 use hsr_toml::{between, integer, is_name, mac, needed, number_or, text, value};
 use hsr_world_steps::Step;
 use std::alloc::Global;
@@ -101,10 +100,10 @@ fn dir(table: &Table) -> Result<Dir, What>
 fn octets(alloc: Global, key: Key, value: &Value) -> Result<Octets, What>
     ensures { Gives (λ o. o) result (word faults octets_of key (view value.now)) }
 {
-    match hex::decode(alloc, text(key, value)?) {
+    match decode_hex(alloc, text(key, value)?.as_bytes()) {
         Ok(octets) => Ok(Octets::new(octets)),
-        Err(FromHexError::OutOfMemory) => Err(What::NoMemory),
-        Err(_) => Err(What::BadValue(key)),
+        Err(WordFault::Memory) => Err(What::NoMemory),
+        Err(WordFault::Bad) => Err(What::BadValue(key)),
     }
 }
 
