@@ -24,7 +24,7 @@ use Rattle.hsr_node.specs.Flow.{pass_of}
 use Rattle.hsr_world_laws.specs.World.{World, and_added, cleared, entered, has_link, has_node, has_port, is_empty, judged_at, new_span, new_world, no_lane, or_same, owner_at, planned, put_at, put_from, record_at, span_at, span_in, take_to, taken_by, tried, waits_in, with_span}
 use Rattle.hsr_topology.specs.Workers.{port_worker}
 use Rattle.hsr_bitset.specs.Numbers.{has}
-use Rattle.hsr_ring.specs.Pending.{AreLooked, ArePending, IsKept, hand_of, is_at, is_by, link_at, touches_box, touches_hand, touches_link}
+use Rattle.hsr_ring.specs.Pending.{AreLooked, AreOfSenders, ArePending, IsKept, hand_of, is_at, is_by, link_at, touches_box, touches_hand, touches_link}
 use Rattle.hsr_world_links.specs.Ports.{AreTold, dir_at, end_at, held_at, is_held, is_ready, is_waiting, port_in, ports_in, port_fault}
 use Rattle.hsr_world_links.specs.Views.{spot_view}
 use Rattle.hsr_ring.specs.declared.pending.Pending.{Pending}
@@ -339,6 +339,10 @@ same_hand v w e (Put n port) = refl
 same_hand v w e (Cut l) = refl
 same_hand v w e (Mend l) = refl
 same_hand v w e (Inject l dir octets) = refl
+
+-- what has a copy to put sends somewhere
+pub of_senders : (list : List Port) (spans : List Span) (left : Pending) → ArePending list spans left → AreOfSenders list left.waiting
+of_senders list spans left p k below none = p.waiting k below ∙ ap (λ o. waits_in spans (option_map spot_view o)) none
 
 looked_at : (capacity : ℕ) (w after : World) (list : List Port) (step : Step) (old new : Pending) → tried capacity w step ≡ Ok after → AreTold w.places w.spans list → ArePending list w.spans old →
     AreLooked list after.spans step old new → ArePending list after.spans new

@@ -11,7 +11,7 @@ use Rattle.hsr_world_laws.specs.Reached.{IsReached}
 use Rattle.hsr_world_laws.specs.World.{World, span_in}
 use Rattle.hsr_bitset.specs.Numbers.{IsLowest, has}
 use Rattle.hsr_world_links.specs.Views.{spot_view}
-use Rattle.hsr_world_links.specs.Ports.{dir_at, end_at, is_held, is_ready, is_waiting, AreTold, port_of}
+use Rattle.hsr_world_links.specs.Ports.{dir_at, end_at, is_held, is_ready, is_waiting, AreTold, port_in, port_of}
 use Rattle.hsr_world_links.specs.Touching.{AreTouching}
 use Rattle.hsr_ring.specs.declared.pending.Pending.{Pending}
 use Rattle.hsr_world_links.specs.declared.port.Port.{Port}
@@ -21,6 +21,10 @@ use Rattle.hsr_world_steps.specs.declared.step.Step.TheVariants.{Send, Supervise
 -- a set has exactly the numbers below 512 that pass a test
 abbrev pub Has : List ℕ → (ℕ → Bool) → Type 0
 Has numbers test = (k : ℕ) → k < 512 → has numbers k ≡ test k
+
+-- all ports that have a copy to put send somewhere
+abbrev pub AreOfSenders : List Port → List ℕ → Type 0
+AreOfSenders ports waiting = (k : ℕ) → k < 512 → (port_in ports k).out ≡ None → has waiting k ≡ false
 
 -- the sets are those of these ports and spans
 pub record ArePending (ports : List Port) (spans : List Span) (pending : Pending) : Type 0 where

@@ -3,13 +3,13 @@
 //! A drain does up to a million steps, so what is left isn't searched for. Three sets say it, and after each step they are
 //! looked at again where that step may have changed them. The step itself doesn't touch them, so its definition stays the
 //! one account of it.
-ghost use Rattle.std.specs.Prelude.{◌≡◌, ◌==◌, ◌<◌, ◌≤◌, ◌/◌, ℕ, [], is_some, map, not, option_map};
+ghost use Rattle.std.specs.Prelude.{◌≡◌, ◌==◌, ◌<◌, ◌≤◌, ◌/◌, ℕ, [], None, false, if◌then◌else◌, is_some, map, not, option_map};
 ghost use Rattle.hsr_topology.specs.Links.{is_same_end};
 ghost use Rattle.hsr_world_laws.specs.Spans.{lane_of};
 ghost use Rattle.hsr_world_laws.specs.World.{is_empty, waits_in};
 ghost use Rattle.hsr_bitset.specs.Numbers.{has};
-ghost use Rattle.hsr_ring.specs.Pending.{Has, is_at, is_by, link_at, looked, received_at};
-ghost use Rattle.hsr_world_links.specs.Ports.{dir_at, end_at, held_at, is_held, is_ready, is_waiting};
+ghost use Rattle.hsr_ring.specs.Pending.{AreOfSenders, Has, is_at, is_by, link_at, looked, received_at};
+ghost use Rattle.hsr_world_links.specs.Ports.{dir_at, end_at, held_at, is_held, is_ready, is_waiting, port_in};
 ghost use Rattle.hsr_world_links.specs.Views.{span_view, spot_view};
 
 use hsr_bitset::Numbers;
@@ -121,8 +121,22 @@ fn look_at_box(waiting: &mut Numbers, ports: &[Port], spans: &[Span], end: End)
     }
 }
 
+/// Looks whether the port of a number has a copy to put.
+fn look_at_number(waiting: &mut Numbers, ports: &[Port], spans: &[Span], number: usize)
+    requires below { number < 512 }
+    requires sender { (port_in ports.now number).out ≡ None → has waiting.old number ≡ false }
+    ensures { (k : ℕ) → k < 512 → has waiting.new k ≡ (if k == number then
+        is_waiting ports.now (map span_view spans.now) number else has waiting.old k) }
+{
+    // Most numbers are of no port that sends: none of them has a copy to put, and none had.
+    if let Some(spot) = port_in(ports, number).out {
+        waiting.put(number, is_waiting(spans, Some(spot)));
+    }
+}
+
 /// Looks which ports of a node have a copy to put.
 fn look_at_node(waiting: &mut Numbers, ports: &[Port], spans: &[Span], node: usize)
+    requires { AreOfSenders ports.now waiting.old }
     ensures { Has waiting.new (looked (λ k. k / 8 == node)
         (is_waiting ports.now (map span_view spans.now)) waiting.old) }
 {
@@ -130,7 +144,7 @@ fn look_at_node(waiting: &mut Numbers, ports: &[Port], spans: &[Span], node: usi
         return;
     }
     for number in 8 * node..8 * node + 8 {
-        waiting.put(number, is_waiting(spans, port_in(ports, number).out));
+        look_at_number(waiting, ports, spans, number);
     }
 }
 
@@ -196,6 +210,7 @@ impl Pending {
 
     /// Looks at what a step may have changed: of the ports, the links and the outboxes at those that it is about.
     pub(crate) fn look(&mut self, ports: &[Port], spans: &[Span], step: &Step)
+        requires { AreOfSenders ports.now self.old.waiting }
         ensures { AreLooked ports.now (map span_view spans.now) step.now self.old self.new }
     {
         match step {

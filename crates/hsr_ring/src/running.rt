@@ -452,7 +452,7 @@ impl<const C: usize> Running<C> {
     ghost use Rattle.hsr_frame.specs.Counters.{AreWithin};
     ghost use Rattle.hsr_node.specs.Counts.{counters};
     ghost use Rattle.hsr_world_links.specs.Ports.{ports_in};
-    ghost use Rattle.hsr_ring.specs.Pending.{AreLooked};
+    ghost use Rattle.hsr_ring.specs.Pending.{AreLooked, AreOfSenders};
     ghost use Rattle.hsr_world_laws.specs.World.{span_at, owner_at, record_at};
 
     /// How many nodes there are.
@@ -511,6 +511,7 @@ impl<const C: usize> Running<C> {
 
     /// Looks at what a step may have changed of what is left to do.
     pub(crate) fn look(&self, ports: &[Port], step: &Step, pending: &mut Pending)
+        requires { AreOfSenders ports.now pending.old.waiting }
         ensures { AreLooked ports.now self.now.spans step.now pending.old pending.new }
     {
         pending.look(ports, &self.spans, step);

@@ -1,8 +1,8 @@
-use Rattle.std.proofs.Common.{List, map, subst, sym}
-use Rattle.hsr_ring.specs.Pending.{AreLooked, IsKept}
+use Rattle.std.proofs.Common.{List, arith, map, subst, sym}
+use Rattle.hsr_ring.specs.Pending.{AreLooked, AreOfSenders, IsKept}
 use Rattle.hsr_world_links.specs.declared.port.Port.{Port}
 use Rattle.hsr_world_laws.specs.World.{World}
-use Rattle.hsr_ring.proofs.Looked.{kept_done}
+use Rattle.hsr_ring.proofs.Looked.{kept_done, of_senders}
 use Rattle.hsr_ring.proofs.world.World.step.Goals as goal
 
 -- it was done
@@ -17,3 +17,11 @@ pub invariant_of-self-in-Err : goal.invariant_of-self-in-Err
 invariant_of-self-in-Err g c =
     let own = c.self.inside in
     subst (λ (w : World). IsKept g.row.C own.topology.places own.topology.links own.ports.items (map (λ links. links.items) own.touching.items) own.pending w) (sym c.in-Err.ensures.err.0) c.self.invariant
+
+pub look-requires : goal.look-requires
+look-requires g c =
+    let own = c.self.inside in (
+      omega arith,
+      subst (λ (ports : List Port). AreOfSenders ports own.pending.waiting) (sym c.deref-in-Ok.ensures.value)
+          (of_senders own.ports.items own.running.spans own.pending c.self.invariant.pending),
+    )
