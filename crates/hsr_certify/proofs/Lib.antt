@@ -13,3 +13,4 @@ pub mod Stages
 pub mod HasSent
 pub mod RunCertifies
 pub mod AnyOrder
+pub mod Standing

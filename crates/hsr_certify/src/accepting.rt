@@ -84,7 +84,7 @@ fn is_down_in(link: usize, was: bool, steps: &[Order]) -> bool
 }
 
 /// Whether a link is down at some time of the span of a send.
-pub(crate) fn is_down(orders: &[Order], span: &SendSpan, link: usize) -> bool
+fn is_down(orders: &[Order], span: &SendSpan, link: usize) -> bool
     ensures { result ≡ is_down orders.now span.now link }
 {
     let was = cut_behind(link, false, first_steps(orders, span.index));

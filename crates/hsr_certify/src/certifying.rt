@@ -8,6 +8,7 @@ ghost use Rattle.hsr_certify.specs.AnyOrder.{HoldsInAnyOrder};
 ghost use Rattle.hsr_certify.specs.Doubts.{IsDoubted, IsFirstFault, IsPremised};
 ghost use Rattle.hsr_certify.specs.Firsts.{first_step};
 ghost use Rattle.hsr_certify.specs.Served.{AreSentIn};
+ghost use Rattle.hsr_certify.specs.Standing.{Rise};
 ghost use Rattle.hsr_certify.specs.Tested.{IsFirstFound, IsPassed, subject_of};
 ghost use Rattle.hsr_certify.specs.Tests.{is_coarse};
 ghost use Rattle.hsr_certify.specs.Verdict.{IsBegun, IsKept, IsWelcome, setup_of, subject_in};
@@ -74,7 +75,8 @@ fn check_kept(
     orders: &[Order],
     spans: &[SendSpan],
 ) -> Result<(), CertifyFault>
-    requires { IsWelcome (subject_in topology.now room table orders.now spans.now) }
+    requires welcome { IsWelcome (subject_in topology.now room table orders.now spans.now) }
+    requires rise { Rise spans.now }
     ensures kept { IfOk result (λ _. IsKept (subject_in topology.now room table orders.now spans.now)) }
     ensures fault { IfErr result (IsFirstFound
         (subject_in topology.now room table orders.now spans.now)) }
@@ -105,6 +107,7 @@ fn check_sends(
 ) -> Result<(), CertifyFault>
     requires kept { IsKept (subject_in topology.now room table orders.now spans.now) }
     requires sent { AreSentIn topology.now.places spans.now }
+    requires rise { Rise spans.now }
     ensures passed { IfOk result (λ _.
         IsPassed (subject_in topology.now room table orders.now spans.now)) }
     ensures fault { IfErr result (IsFirstFound

@@ -1,5 +1,5 @@
 //! How many spans meet, are open, and are numbered by one node.
-ghost use Rattle.std.specs.Prelude.{◌≡◌, ◌+◌, ◌≤◌, count_by, length, slice_index_or};
+ghost use Rattle.std.specs.Prelude.{◌≡◌, ◌+◌, ◌<◌, ◌≤◌, ◌^◌, ℕ, Some, if◌then◌else◌, count_by, length, slice_get, slice_index, slice_index_or};
 ghost use Rattle.hsr_node.specs.declared.place.Place.TheVariants.{QuadBox};
 ghost use Rattle.hsr_network_laws.specs.Network.{is_station};
 ghost use Rattle.hsr_run_laws.specs.Premises.{is_redbox};
@@ -7,7 +7,9 @@ ghost use Rattle.hsr_routes.specs.Routes.{bare};
 ghost use Rattle.hsr_run_laws.specs.Run.{joined_by, peer_in};
 ghost use Rattle.hsr_plays.specs.Conditions.{box_at, is_numbered_by_then, is_same_counter, numbers_of};
 ghost use Rattle.hsr_plays.specs.Spans.{is_open_at, meets};
+ghost use Rattle.hsr_plays.specs.declared.span.SendSpan.{SendSpan};
 ghost use Rattle.hsr_certify.specs.Firsts.{first_send};
+ghost use Rattle.hsr_certify.specs.Standing.{AreWithin, Rise, most_by};
 ghost use Rattle.hsr_certify.specs.Tests.{has_room, is_uncrowded, is_unwrapped};
 
 use hsr_node::Place;
@@ -16,6 +18,9 @@ use hsr_topology::{End, Topology, is_same_end};
 
 /// How many numbers there are: after as many a node begins anew.
 const NUMBER_RANGE: usize = 65536;
+
+/// How many nodes a topology has, at most.
+const NODES: usize = 64;
 
 /// Whether each of two spans begins before the other ends.
 fn do_meet(a: &SendSpan, b: &SendSpan) -> bool
@@ -38,13 +43,59 @@ fn count_meeting(span: &SendSpan, spans: &[SendSpan]) -> usize
     count
 }
 
+/// The first of these spans, from a place on, that ends behind a step: its place, or how many there are, where none does.
+fn first_open(spans: &[SendSpan], from: usize, index: usize) -> usize
+    ensures { (j : ℕ) (a : SendSpan) → from ≤ j → j < result → slice_get spans.now j ≡ Some a → a.end ≤ index }
+{
+    for at in from..spans.len() {
+        if spans[at].end > index {
+            return at;
+        }
+    }
+    spans.len()
+}
+
+/// The first of these spans, from a place on, that begins with a step or behind it: its place, or how many there are, where none does.
+fn first_from(spans: &[SendSpan], from: usize, step: usize) -> usize
+    ensures { (a : SendSpan) → slice_get spans.now result ≡ Some a → step ≤ a.index }
+{
+    for at in from..spans.len() {
+        if spans[at].index >= step {
+            return at;
+        }
+    }
+    spans.len()
+}
+
+/// Places of spans among all: from the low one on, before the high one.
+#[derive(Clone, Copy)]
+struct Window {
+    low: usize,
+    high: usize,
+}
+
+/// Whether a span meets no more spans than a table has entries, where all that it meets stand in a window.
+fn is_uncrowded(table: usize, spans: &[SendSpan], span: &SendSpan, window: Window) -> bool
+    requires { AreWithin (meets span.now) spans.now window.low window.high }
+    ensures { result ≡ is_uncrowded table spans.now span.now }
+{
+    // The window has room for all that are met. They are counted only where that is not enough: else each span would ask all others.
+    window.high.saturating_sub(window.low) <= table || count_meeting(span, spans) <= table
+}
+
 /// The first send whose span meets more spans than a table has entries.
 pub(crate) fn first_crowded(table: usize, spans: &[SendSpan]) -> Option<usize>
+    requires { Rise spans.now }
     ensures { result ≡ first_send (is_uncrowded table spans.now) spans.now }
 {
+    let mut low = 0;
+    let mut high = 0;
     // The index is used by the loop's invariant alone.
     for (i, span) in spans.iter().enumerate() {
-        if count_meeting(span, spans) > table {
+        // Sends come in the order of their steps, so the window only goes on.
+        low = first_open(spans, low, span.index);
+        high = first_from(spans, high, span.end);
+        if !is_uncrowded(table, spans, span, Window { low, high }) {
             return Some(span.index);
         }
     }
@@ -72,13 +123,26 @@ fn count_open(index: usize, spans: &[SendSpan]) -> usize
     count
 }
 
+/// Whether behind a send no more sends are open than a direction of a link has room, where all that are stand in a window.
+fn has_room(room: usize, spans: &[SendSpan], span: &SendSpan, window: Window) -> bool
+    requires { AreWithin (is_open_at (span.now.index + 1)) spans.now window.low window.high }
+    ensures { result ≡ has_room room spans.now span.now }
+{
+    // As in `is_uncrowded`.
+    window.high.saturating_sub(window.low) <= room || count_open(span.index, spans) <= room
+}
+
 /// The first send behind whose step more sends are open than a direction of a link has room.
 pub(crate) fn first_full(room: usize, spans: &[SendSpan]) -> Option<usize>
+    requires { Rise spans.now }
     ensures { result ≡ first_send (has_room room spans.now) spans.now }
 {
-    // The index is used by the loop's invariant alone.
+    let mut low = 0;
     for (i, span) in spans.iter().enumerate() {
-        if count_open(span.index, spans) > room {
+        low = first_open(spans, low, span.index);
+        // Those behind it aren't sent yet.
+        let window = Window { low, high: i + 1 };
+        if !has_room(room, spans, span, window) {
             return Some(span.index);
         }
     }
@@ -183,8 +247,38 @@ fn count_numbered(topology: &Topology, span: &SendSpan, spans: &[SendSpan]) -> u
     count
 }
 
+/// Counts a send at the node that numbers it, if one does, and says how many that numbered, at most.
+fn count_at(counts: &mut [usize; NODES], counter: Option<usize>) -> usize
+    requires { (c : ℕ) → c < 64 → slice_index counts.old c < 2 ^ 63 }
+    ensures counts { (c : ℕ) → c < 64 → slice_index counts.new c ≡ slice_index counts.old c + (if is_same_counter (Some c) counter then 1 else 0) }
+    ensures most { result ≡ most_by counter counts.new }
+{
+    match counter {
+        Some(node) => {
+            if node < NODES {
+                counts[node] += 1;
+                counts[node]
+            } else {
+                // No topology has such a node; of one nothing is known.
+                usize::MAX
+            }
+        }
+        None => 0,
+    }
+}
+
+/// Whether the node of a send numbers no more than there are numbers up to it, where it numbers so many at most.
+fn is_unwrapped(topology: &Topology, spans: &[SendSpan], span: &SendSpan, most: usize) -> bool
+    requires { count_by (is_numbered_by_then (bare topology.now.places topology.now.links) span.now) spans.now ≤ most }
+    ensures { result ≡ is_unwrapped (bare topology.now.places topology.now.links) spans.now span.now }
+{
+    // As in `is_uncrowded`.
+    most <= NUMBER_RANGE || count_numbered(topology, span, spans) <= NUMBER_RANGE
+}
+
 /// The first send by which a node numbers more than there are numbers.
 pub(crate) fn first_wrapped(topology: &Topology, spans: &[SendSpan]) -> Option<usize>
+    requires { Rise spans.now }
     ensures { result ≡ first_send (is_unwrapped (bare topology.now.places topology.now.links)
         spans.now) spans.now }
 {
@@ -192,9 +286,12 @@ pub(crate) fn first_wrapped(topology: &Topology, spans: &[SendSpan]) -> Option<u
     if spans.len() <= NUMBER_RANGE {
         return None;
     }
+    let mut counts = [0usize; NODES];
     // The index is used by the loop's invariant alone.
     for (i, span) in spans.iter().enumerate() {
-        if count_numbered(topology, span, spans) > NUMBER_RANGE {
+        let counter = numbers_of(topology, span.asked.node);
+        let most = count_at(&mut counts, counter);
+        if !is_unwrapped(topology, spans, span, most) {
             return Some(span.index);
         }
     }

@@ -2,9 +2,9 @@
 ghost use Rattle.std.specs.Prelude.{◌≡◌, ◌+◌, ◌*◌, ◌<◌, ◌≤◌, ◌==◌, ◌||◌, ℕ, if◌then◌else◌, length, IfOk};
 ghost use Rattle.hsr_bitset.specs.Numbers.{has};
 ghost use Rattle.hsr_routes.specs.Routes.{bare};
+ghost use Rattle.hsr_send_spans.specs.Down.{AreCutAt, AreDownIn};
 ghost use Rattle.hsr_certify.specs.Served.{AreAvoidedBelow, AreSentIn, IsFirstUnled, IsUnled, first_missed_from, is_missed_at};
 
-use crate::accepting::is_down;
 use hsr_bitset::Numbers;
 use hsr_deliveries::is_due;
 use hsr_frame::NoMemory;
@@ -12,6 +12,7 @@ use hsr_node::Place;
 use hsr_plays::SendSpan;
 use hsr_routes::{Heading, Routes};
 use hsr_scenario::Order;
+use hsr_send_spans::Cuts;
 use hsr_topology::Topology;
 use std::alloc::Global;
 
@@ -25,14 +26,15 @@ fn put_link(set: &mut Numbers, link: usize, is_down: bool)
     set.put(2 * link + 1, is_down);
 }
 
-/// The channels of links that are down at some time of the span of a send.
-fn avoided(orders: &[Order], span: &SendSpan, links: usize) -> Numbers
-    requires { links ≤ 128 }
+/// The channels of links that are down at some time of the span of a send, where these links are.
+fn avoided(orders: &[Order], span: &SendSpan, down: &Numbers, links: usize) -> Numbers
+    requires few { links ≤ 128 }
+    requires down { AreDownIn orders.now span.now down.now }
     ensures { AreAvoidedBelow orders.now span.now links result }
 {
     let mut set = Numbers::new();
     for link in 0..links {
-        put_link(&mut set, link, is_down(orders, span, link));
+        put_link(&mut set, link, down.has(link));
     }
     set
 }
@@ -71,13 +73,16 @@ fn first_unled(
     topology: &Topology,
     routes: &Routes<'_>,
     orders: &[Order],
+    cuts: &Cuts,
     span: &SendSpan,
 ) -> Option<usize>
     requires routes { routes.now ≡ bare topology.now.places topology.now.links }
     requires sender { span.now.asked.node < length topology.now.places }
+    requires cuts { AreCutAt orders.now span.now.index cuts.now.links }
     ensures { IsUnled (bare topology.now.places topology.now.links) orders.now span.now result }
 {
-    let avoid = avoided(orders, span, topology.links().len());
+    let down = cuts.down_in(orders, span);
+    let avoid = avoided(orders, span, &down, topology.links().len());
     let heading = Heading {
         sender: span.asked.node,
         dst: span.asked.dst,
@@ -99,8 +104,10 @@ pub(crate) fn first_cut_off(
         spans.now) }
 {
     let routes = Routes::new(alloc, topology)?;
+    let mut cuts = Cuts::new();
     for (i, span) in spans.iter().enumerate() {
-        if let Some(node) = first_unled(topology, &routes, orders, span) {
+        cuts = cuts.at(orders, span.index);
+        if let Some(node) = first_unled(topology, &routes, orders, &cuts, span) {
             return Ok(Some(CutOff {
                 step: span.index,
                 node,

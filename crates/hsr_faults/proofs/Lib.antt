@@ -11,3 +11,4 @@ pub mod Telling
 pub mod Thinning
 pub mod Leaving
 pub mod Serving
+pub mod Putting

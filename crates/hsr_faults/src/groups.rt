@@ -9,6 +9,7 @@ use hsr_frame::NoMemory;
 use hsr_plays::SendSpan;
 use hsr_routes::Heading;
 use hsr_scenario::Order;
+use hsr_send_spans::Cuts;
 use std::alloc::Global;
 
 /// Sends of one node to one destination and of one EtherType, with the same channels down in their spans.
@@ -71,13 +72,15 @@ pub(crate) fn groups_of(
 {
     let mut groups = Vec::new(alloc);
     let mut of = Vec::new(alloc);
+    let mut cuts = Cuts::new();
     for (i, span) in spans.iter().enumerate() {
+        cuts = cuts.at(orders, span.index);
         let frame = Heading {
             sender: span.asked.node,
             dst: span.asked.dst,
             kind: span.asked.kind,
         };
-        let index = place(&mut groups, &frame, &down(orders, span))?;
+        let index = place(&mut groups, &frame, &down(orders, &cuts, span))?;
         of.push(index)?;
     }
     Ok(Grouping { groups, of })

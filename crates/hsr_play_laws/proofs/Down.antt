@@ -1,10 +1,11 @@
 -- Cuts at times, and what is down in a span.
-use Rattle.std.proofs.Common.{◌≡◌, ◌⊎◌, inl, inr, ℕ, ◌+◌, ◌-◌, ◌<◌, ◌≤◌, ◌||◌, Bool, true, false, if◌then◌else◌, List, [], ◌∷◌, ◌++◌, length, take, drop, Option, Some, None, refl, sym, ap, ◌∙◌, subst, arith, zero, suc, zero-add}
+use Rattle.std.proofs.Common.{◌≡◌, ◌⊎◌, inl, inr, ℕ, ◌+◌, ◌-◌, ◌<◌, ◌≤◌, ◌||◌, Bool, true, false, if◌then◌else◌, List, [], ◌∷◌, ◌++◌, length, take, drop, Option, Some, None, refl, sym, ap, ◌∙◌, subst, arith, zero, suc}
 use Rattle.std.specs.Prelude.{slice_get}
 use Rattle.std.proofs.lemmas.Bool.{or_left, or_right}
 use Rattle.hsr_scenario.specs.declared.steps.Order.{Order}
 use Rattle.hsr_plays.specs.Spans.{cut_after, cut_behind, is_cut_at, is_down, is_down_in, steps_of}
 use Rattle.hsr_plays.specs.declared.span.SendSpan.{SendSpan}
+use Rattle.hsr_plays.proofs.Times.{cut_on}
 
 -- behind a step
 pub next_cut : (l : ℕ) (was : Bool) (n : ℕ) (orders : List Order) (o : Order) → slice_get orders n ≡ Some o → cut_behind l was (take (suc n) orders) ≡ cut_after l (cut_behind l was (take n orders)) o
@@ -13,15 +14,6 @@ next_cut l was zero (first ∷ later) o listed =
     let same : first ≡ o = let e : Some first ≡ Some o = listed in cc in
     ap (cut_after l was) same
 next_cut l was (suc n) (first ∷ later) o listed = next_cut l (cut_after l was first) n later o listed
-
--- so many steps behind another time
-cut_on : (l : ℕ) (was : Bool) (a t : ℕ) (orders : List Order) → cut_behind l was (take (a + t) orders) ≡ cut_behind l (cut_behind l was (take a orders)) (take t (drop a orders))
-cut_on l was zero t orders = ap (λ n. cut_behind l was (take n orders)) (zero-add t)
-cut_on l was (suc a) zero [] = let e : suc a + 0 ≡ suc a = omega arith in ap (λ n. cut_behind l was (take n [])) e
-cut_on l was (suc a) (suc t) [] = let e : suc a + suc t ≡ suc (a + suc t) = omega arith in ap (λ n. cut_behind l was (take n [])) e
-cut_on l was (suc a) t (o ∷ later) =
-    let e : suc a + t ≡ suc (a + t) = omega arith in
-    ap (λ n. cut_behind l was (take n (o ∷ later))) e ∙ cut_on l (cut_after l was o) a t later
 
 -- a link that is cut behind some of the steps is down in them
 down_in : (l : ℕ) (was : Bool) (t d : ℕ) (orders : List Order) → t ≤ d → cut_behind l was (take t orders) ≡ true → is_down_in l was (take d orders) ≡ true

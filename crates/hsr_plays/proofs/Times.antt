@@ -1,11 +1,11 @@
--- Moments at times, and where spans end.
+-- Moments and cuts at times, and where spans end.
 use Rattle.std.proofs.Common.{◌≡◌, ℕ, ◌+◌, ◌≤◌, Bool, true, false, if◌then◌else◌, List, [], ◌∷◌, length, take, drop, Option, Some, refl, ap, ◌∙◌, arith, zero, suc, zero-add}
 use Rattle.std.specs.Prelude.{slice_get}
 use Rattle.hsr_scenario.specs.declared.steps.Order.{Order}
 use Rattle.hsr_scenario.specs.declared.steps.Order.TheVariants as order
 use Rattle.hsr_world_steps.specs.declared.step.Step.TheVariants.{Clock, Send, Supervise, Age, Put, Take, Judge, Cut, Mend, Inject}
 use Rattle.hsr_plays.specs.Setup.{asked_by}
-use Rattle.hsr_plays.specs.Spans.{end_from, ends_span, moment_after, moment_behind}
+use Rattle.hsr_plays.specs.Spans.{cut_after, cut_behind, end_from, ends_span, moment_after, moment_behind}
 use Rattle.hsr_plays.specs.declared.span.Asked.{Asked}
 
 -- ---- one time behind another
@@ -18,6 +18,15 @@ moment_on_from m (suc a) (suc t) [] = let e : suc a + suc t ≡ suc (a + suc t) 
 moment_on_from m (suc a) t (o ∷ later) =
     let e : suc a + t ≡ suc (a + t) = omega arith in
     ap (λ n. moment_behind m (take n (o ∷ later))) e ∙ moment_on_from (moment_after m o) a t later
+
+-- whether a link is cut t steps behind the a-th
+pub cut_on : (l : ℕ) (was : Bool) (a t : ℕ) (orders : List Order) → cut_behind l was (take (a + t) orders) ≡ cut_behind l (cut_behind l was (take a orders)) (take t (drop a orders))
+cut_on l was zero t orders = ap (λ n. cut_behind l was (take n orders)) (zero-add t)
+cut_on l was (suc a) zero [] = let e : suc a + 0 ≡ suc a = omega arith in ap (λ n. cut_behind l was (take n [])) e
+cut_on l was (suc a) (suc t) [] = let e : suc a + suc t ≡ suc (a + suc t) = omega arith in ap (λ n. cut_behind l was (take n [])) e
+cut_on l was (suc a) t (o ∷ later) =
+    let e : suc a + t ≡ suc (a + t) = omega arith in
+    ap (λ n. cut_behind l was (take n (o ∷ later))) e ∙ cut_on l (cut_after l was o) a t later
 
 -- of some first of some first steps
 pub take_within : (t n : ℕ) (orders : List Order) → t ≤ n → take t (take n orders) ≡ take t orders

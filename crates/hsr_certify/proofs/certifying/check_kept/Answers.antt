@@ -12,4 +12,4 @@ returns-in-None-clause-kept c =
     let brief : first_send (is_brief t.orders) t.spans ≡ None = search rules in
     let uncrowded : first_send (is_uncrowded t.capacity t.spans) t.spans ≡ None = search rules in
     let unwrapped : first_send (is_unwrapped t.net t.spans) t.spans ≡ None = search rules in
-    record { welcome = c.requires; not_back = not_back; brief = brief; uncrowded = uncrowded; unwrapped = unwrapped }
+    record { welcome = c.requires.welcome; not_back = not_back; brief = brief; uncrowded = uncrowded; unwrapped = unwrapped }

@@ -1,7 +1,8 @@
 use Rattle.std.proofs.Common.{◌≡◌, drop}
 use Rattle.hsr_certify.specs.Firsts.{first_send}
+use Rattle.hsr_certify.specs.Standing.{HaveEnded}
 use Rattle.hsr_certify.specs.Tests.{has_room}
 use Rattle.hsr_certify.proofs.counting.first_full.Given as goal
 
 abbrev pub invariant-loop-i : goal.invariant-loop-i
-invariant-loop-i l = first_send (has_room l.room l.spans) (drop l.i l.spans) ≡ first_send (has_room l.room l.spans) l.spans
+invariant-loop-i l = (first_send (has_room l.room l.spans) (drop l.i l.spans) ≡ first_send (has_room l.room l.spans) l.spans) × HaveEnded l.spans l.low l.i

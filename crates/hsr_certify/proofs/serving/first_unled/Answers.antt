@@ -15,7 +15,7 @@ avoided-avoid-requires c =
     let net : Run = bare c.args.topology.now.places c.args.topology.now.links in
     let wired : IsWired net.places net.links = search rules in
     let is : c.links.result.now ≡ net.links = search rules in
-    subst (λ links. length links ≤ 128) (sym is) wired.few_links
+    record { few = subst (λ links. length links ≤ 128) (sym is) wired.few_links; down = c.down_in-down.ensures }
 
 pub reached-nodes-requires : goal.reached-nodes-requires
 reached-nodes-requires c = record { sender = subst (λ (net : Run). c.args.span.now.asked.node < length net.places) (sym c.requires.routes) c.requires.sender }
