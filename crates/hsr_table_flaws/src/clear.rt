@@ -88,17 +88,30 @@ fn is_plain<const C: usize>(
     numbers <= NUMBER_RANGE
 }
 
+/// Lets no mark of a node stand.
+// No clause: a mark that stayed could only raise a false alarm.
+fn unmark<const C: usize>(closed: &Closed<C>, node: usize, starts: &[usize], marks: &mut [Exits])
+    requires { node < length closed.now.run.places }
+{
+    for (place, x) in closed.entries(node).iter().enumerate() {
+        let send = x.event.probe(Probe { node, place });
+        if let Some(at) = mark_place(starts, marks.len(), send) {
+            marks[at] = Exits::none();
+        }
+    }
+}
+
 /// Whether that is so of all nodes, where it tells so.
 fn are_plain<const C: usize>(closed: &Closed<C>, starts: &[usize], marks: &mut [Exits]) -> bool
     ensures { result ≡ true → ((k : ℕ) → k < length closed.now.run.places
         → IsPlain closed.now.run k) }
 {
     for node in 0..closed.topology().places().len() {
-        // The room of one node serves the next. What stood in it could only raise a false alarm.
-        marks.fill(Exits::none());
         if !is_plain(closed, node, starts, marks) {
             return false;
         }
+        // The room of one node serves the next. Only what it marked goes: the whole room is for all entries of the run.
+        unmark(closed, node, starts, marks);
     }
     true
 }
