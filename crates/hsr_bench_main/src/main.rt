@@ -3,7 +3,7 @@
 
 use hsr_bench::bench;
 use hsr_files::HostDisk;
-use hsr_text::arguments;
+use hsr_text::{BUFFER_SIZE, arguments};
 use std::fs::Files;
 use std::io::{BufWriter, ErrorKind, Write};
 use std::marker::Sync;
@@ -24,7 +24,7 @@ fn run<H: AllocGlobal + Env + Files + Input + Print + Threads + Wait + Sync, E: 
         return Err(io::Error::from(ErrorKind::OutOfMemory));
     };
     let mut reader = rt.reader();
-    let mut writer = BufWriter::new(rt.alloc(), io::writer(rt))?;
+    let mut writer = BufWriter::with_capacity(rt.alloc(), BUFFER_SIZE, io::writer(rt))?;
     let mut disk = HostDisk { rt };
     let code = bench(
         rt,

@@ -16,7 +16,7 @@ use hsr_node::{Node, Place};
 use hsr_node_text::{Setting, answer_line, put_counters};
 use hsr_options::{NodeOptions, NodeRole};
 use hsr_table_size::at_size;
-use hsr_text::{Front, WordFault, granted_reads, next_line, split_at};
+use hsr_text::{BUFFER_SIZE, Front, WordFault, granted_reads, next_line, split_at};
 use std::alloc::Global;
 use std::io::{BufRead, BufReader, Read, Write};
 
@@ -252,7 +252,7 @@ pub fn node_run<R: Read, W: Write>(
     ensures { IfSome (R.remaining reader.old) (λ text.
         Ended (W.contents writer.old) (W.contents writer.new) (chosen_output chosen.now (lines_of text)) result) }
 {
-    let Ok(mut lines) = BufReader::new(alloc, reader) else {
+    let Ok(mut lines) = BufReader::with_capacity(alloc, BUFFER_SIZE, reader) else {
         return Status::Fault(Fault::Memory);
     };
     let setting = Setting {

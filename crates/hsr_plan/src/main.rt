@@ -9,7 +9,7 @@ mod planning;
 
 pub use crate::planning::plan;
 use hsr_files::HostDisk;
-use hsr_text::arguments;
+use hsr_text::{BUFFER_SIZE, arguments};
 use std::fs::Files;
 use std::io::{BufWriter, ErrorKind, IsTerminal, Write};
 use std::marker::Sync;
@@ -30,7 +30,7 @@ fn run<H: AllocGlobal + Env + Files + Input + Print + Threads + Sync, E: Write>(
         return Err(io::Error::from(ErrorKind::OutOfMemory));
     };
     let mut reader = rt.reader();
-    let mut writer = BufWriter::new(rt.alloc(), io::writer(rt))?;
+    let mut writer = BufWriter::with_capacity(rt.alloc(), BUFFER_SIZE, io::writer(rt))?;
     let mut disk = HostDisk { rt };
     let code = plan(
         rt,

@@ -24,7 +24,7 @@ pub use lines::{Front, READ_LIMIT, ReaderFault, next_line};
 pub use putting::{put, put_number, put_octets};
 pub use short_words::short_word;
 pub use time_unit::TimeUnit;
-pub use whole::{InputFault, granted_reads, read_text};
+pub use whole::{BUFFER_SIZE, InputFault, granted_reads, read_text};
 pub use words::{
     WordFault, decimal, decode_hex, hex_octets, hex_pair, put_count, put_decimal, put_hex, put_mac,
     split_at, word,

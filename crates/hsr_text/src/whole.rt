@@ -6,8 +6,8 @@ use crate::lines::READ_LIMIT;
 use std::alloc::Global;
 use std::io::{ErrorKind, Read};
 
-/// The most octets that are read at once.
-const PIECE_LIMIT: usize = 4096;
+/// The most octets that are read or written at once. Each read and each write is a call of the system, and a pipe of Linux holds no more.
+pub const BUFFER_SIZE: usize = 65_536;
 
 /// Why a text isn't read.
 #[derive(Clone, Copy, PartialEq, Eq)]
@@ -23,7 +23,7 @@ fn read_piece<R: Read>(reader: &mut R, text: &mut Vec<u8>) -> Result<bool, Input
     ensures { IfOk result (λ more. ReadsPiece (R.remaining reader.old)
         (R.remaining reader.new) text.old.items text.new.items more) }
 {
-    let mut piece = [0u8; PIECE_LIMIT];
+    let mut piece = [0u8; BUFFER_SIZE];
     match reader.read(&mut piece) {
         Ok(count) => match text.extend_from_slice(&piece[..count]) {
             Ok(()) => Ok(count > 0),

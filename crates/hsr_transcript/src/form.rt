@@ -16,7 +16,7 @@ use crate::sections::{Progress, fixed, nothing_more, section, version};
 use hsr_frame::NoMemory;
 use hsr_link::Row;
 use hsr_node::{Entry, Place};
-use hsr_text::TimeUnit;
+use hsr_text::{BUFFER_SIZE, TimeUnit};
 use hsr_topology::End;
 use hsr_transcript_lines::{EntryLine, LinkLine, NumberLine, PlaceLine, RowLine, put_number};
 use std::alloc::Global;
@@ -368,7 +368,7 @@ pub fn read_plain<R: Read>(
 ) -> Result<Plain, ReadFault>
     ensures { Says plain_view (R.remaining reader.old) result (form_of capacity) }
 {
-    match BufReader::new(alloc, reader) {
+    match BufReader::with_capacity(alloc, BUFFER_SIZE, reader) {
         Ok(mut buffered) => whole(capacity, alloc, &mut buffered),
         Err(_) => Err(ReadFault::NoMemory),
     }
