@@ -44,6 +44,7 @@ fn count_meeting(span: &SendSpan, spans: &[SendSpan]) -> usize
 }
 
 /// The first of these spans, from a place on, that ends behind a step: its place, or how many there are, where none does.
+// That it is the first is no clause: from an earlier place on more spans are counted, and none is left out.
 fn first_open(spans: &[SendSpan], from: usize, index: usize) -> usize
     ensures { (j : ℕ) (a : SendSpan) → from ≤ j → j < result → slice_get spans.now j ≡ Some a → a.end ≤ index }
 {
@@ -56,6 +57,7 @@ fn first_open(spans: &[SendSpan], from: usize, index: usize) -> usize
 }
 
 /// The first of these spans, from a place on, that begins with a step or behind it: its place, or how many there are, where none does.
+// As above: up to a later place none is left out.
 fn first_from(spans: &[SendSpan], from: usize, step: usize) -> usize
     ensures { (a : SendSpan) → slice_get spans.now result ≡ Some a → step ≤ a.index }
 {
