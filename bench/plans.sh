@@ -1,6 +1,6 @@
 #!/bin/sh
-# Times `hsr_plan run` of twenty merging units over two seconds (160,000 sends), and `hsr_plan sweep` of a ring of 64 with 10,000 sends, each
-# link and each node off in turn: on all processors, and on one.
+# Times `hsr_plan run` and `hsr_plan certify` of twenty merging units over two seconds (160,000 sends), and `hsr_plan sweep` of a ring of 64
+# with 10,000 sends, each link and each node off in turn: on all processors, and on one.
 # Usage: bench/plans.sh [HSR_PLAN], or that of bin/. It needs python3 and GNU's /usr/bin/time.
 set -eu
 here=$(cd "$(dirname "$0")/.." && pwd)
@@ -31,6 +31,8 @@ ring 20 20 8000 "each moment drains" >"$work/units.toml"
 ring 64 10 1000 "each send drains" >"$work/ring.toml"
 measure run units.toml "$plan" run
 tail -n 1 "$work/run"
+measure certify units.toml "$plan" certify
+tail -n 1 "$work/certify"
 measure sweep ring.toml "$plan" sweep
 measure sweep-on-one ring.toml taskset -c 0 "$plan" sweep
 cmp "$work/sweep" "$work/sweep-on-one"

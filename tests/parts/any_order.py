@@ -45,8 +45,7 @@ def try_lines(setting, first, after):
 
 
 def try_edges(setting):
-    # Those of 65536 numbers take minutes: they are tried by hand.
-    return compared(setting, compare_orders.compare_edges, compare_orders.LONG)
+    return compared(setting, compare_orders.compare_edges)
 
 
 def jobs(_):

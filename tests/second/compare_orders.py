@@ -130,6 +130,7 @@ def far_edges():
         yield f"{count} numbers", {**ring(2), "step": groups([send("n0")] * count, 64)}, 512, None
         mixed = [send("n1")] * 30000 + [send("s0", compare.mac(2))] * 30000 + [{"do": "life", "node": "n1"}] * (count - 60000)
         yield f"{count} numbers of a RedBox and its Station", {**box(), "step": groups(mixed, 64)}, 512, None
+    yield "65536 numbers of each of two nodes", {**ring(2), "step": groups([send("n0"), send("n1")] * 65536, 64)}, 512, None
     yield "a number that comes again", {**ring(3), "step": groups([send("n0")] + [send("n0", compare.mac(3))] * 65535 + [send("n0")], 1)}, 4, None
     for count in (512, 513):
         yield f"{count} spans that meet", {"capacity": 4096, **ring(2), "step": groups([send("n0")] * count, count)}, 512, None
@@ -151,12 +152,10 @@ def far_edges():
             yield "life about the own address of a node, or another's", {**box(), "step": steps}, 512, None
 
 
-def compare_edges(most=None):
-    """Compares what chance doesn't find, of at most so many steps, by coarse orders too where that isn't long."""
+def compare_edges():
+    """Compares what chance doesn't find, by coarse orders too where that isn't long."""
     seen = []
     for name, made, table, within in far_edges():
-        if most is not None and len(made["step"]) > most:
-            continue
         for is_coarse in (False, True)[: 1 + (len(made["step"]) < LONG)]:
             seen.append(compare_line(name, made, table, within, is_coarse))
     return seen
