@@ -16,7 +16,8 @@ SECONDS = 20
 
 
 def long_scenario():
-    remarks = "".join(f"# {number}\n" for number in range(1, 3001))
+    """A scenario of over 128 KiB, so that three reads of 64 KiB are needed."""
+    remarks = "".join(f"# {number}\n" for number in range(1, 20001))
     return (ROOT / "examples" / "scenarios" / "ring3.toml").read_bytes() + remarks.encode()
 
 
