@@ -121,7 +121,7 @@ module _ (s : Setup) (wired : IsWired s.places s.links) (i : ℕ) (there : i ≤
           let one = and_parts (found.x.asked.node == (start_of (net_of s) (channel_to at)).node) _ found.is in
           let second = and_parts (is_from (address_at (place_of (net_of s) found.x.asked.node) found.x.asked.from) mac) _ one.1 in
           let third = and_parts (nat_le found.x.end i) _ second.1 in
-          let fourth = and_parts (not (is_down s.orders found.x at.0)) (was_lately s.orders i found.x) third.1 in
+          let fourth = and_parts (was_lately s.orders i found.x) (not (is_down s.orders found.x at.0)) third.1 in
           let ended = leb-true found.x.end i third.0 in
           record {
             at = found.i;
@@ -133,8 +133,8 @@ module _ (s : Setup) (wired : IsWired s.places s.links) (i : ℕ) (there : i ≤
             sender = sym (eqb-true found.x.asked.node (start_of (net_of s) (channel_to at)).node one.0);
             address = from_so (address_at (place_of (net_of s) found.x.asked.node) found.x.asked.from) mac second.0;
             ended = ended;
-            up = not-true (is_down s.orders found.x at.0) fourth.0;
-            lately = lately_so s.orders found.x (is_placed s.within s.orders found.i found.x found.got) i ended there fourth.1;
+            up = not-true (is_down s.orders found.x at.0) fourth.1;
+            lately = lately_so s.orders found.x (is_placed s.within s.orders found.i found.x found.got) i ended there fourth.0;
           }
 
   so_heard : (node : ℕ) (mac : List ℕ) → IsHeard s i node mac → is_heard (net_of s) s.orders (spans s) i node mac ≡ true
@@ -153,7 +153,7 @@ module _ (s : Setup) (wired : IsWired s.places s.links) (i : ℕ) (there : i ≤
           (and_from _ _ (eq-eqb h.span.asked.node (start_of (net_of s) h.channel).node (sym h.sender))
           (and_from _ _ (so_from (address_at (place_of (net_of s) h.span.asked.node) h.span.asked.from) mac h.address)
           (and_from _ _ (le-leb h.span.end i h.ended)
-          (and_from _ _ (ap not h.up) (so_lately s.orders h.span (is_placed s.within s.orders h.at h.span h.listed) i h.ended there h.lately))))))
+          (and_from _ _ (so_lately s.orders h.span (is_placed s.within s.orders h.at h.span h.listed) i h.ended there h.lately) (ap not h.up))))))
 
       by_dir : (dir : Dir) → h.channel.dir ≡ dir → (a b : End) → slice_index_or s.links h.channel.link [] ≡ a ∷ b ∷ [] → is_heard (net_of s) s.orders (spans s) i node mac ≡ true
       by_dir Forth e a b ends =

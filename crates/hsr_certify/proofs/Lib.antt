@@ -8,6 +8,7 @@ pub mod Brief
 pub mod Lately
 pub mod Heard
 pub mod Meaning
+pub mod Newest
 pub mod Verdicts
 pub mod Stages
 pub mod HasSent

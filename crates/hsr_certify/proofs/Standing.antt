@@ -12,7 +12,15 @@ use Rattle.hsr_plays.specs.Spans.{end_from, is_open_at, meets, moment_after, spa
 use Rattle.hsr_plays.specs.declared.span.Asked.{Asked}
 use Rattle.hsr_plays.specs.declared.span.SendSpan.{SendSpan}
 use Rattle.hsr_plays.proofs.Asking.{asked_at}
-use Rattle.hsr_certify.specs.Standing.{AreWithin, HaveEnded, Rise, is_numbered_by, most_by}
+use Rattle.hsr_certify.specs.Standing.{AreWithin, Rise, most_by}
+
+-- all before a place ended before any that stands from another place on
+abbrev pub HaveEnded : List SendSpan → ℕ → ℕ → Type 0
+HaveEnded spans low i = (j k : ℕ) (a b : SendSpan) → j < low → i ≤ k → slice_get spans j ≡ Some a → slice_get spans k ≡ Some b → a.end ≤ b.index
+
+-- a node numbers a send
+abbrev pub is_numbered_by : Run → ℕ → SendSpan → Bool
+is_numbered_by net node span = is_same_counter (Some node) (numbers_of net span.asked.node)
 
 -- ---- counts
 

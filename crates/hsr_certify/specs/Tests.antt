@@ -94,7 +94,7 @@ is_from (Some own) mac = is_same_address own mac
 abbrev pub is_heard_by : Run → List Order → ℕ → List ℕ → Channel → SendSpan → Bool
 is_heard_by net orders i mac channel span =
     (span.asked.node == (start_of net channel).node) && (is_from (address_at (place_of net span.asked.node) span.asked.from) mac
-    && (nat_le span.end i && (not (is_down orders span channel.link) && was_lately orders i span)))
+    && (nat_le span.end i && (was_lately orders i span && not (is_down orders span channel.link))))
 
 -- the channel to an end of a link, which is its first end or its second
 abbrev pub channel_to : ℕ × Bool → Channel

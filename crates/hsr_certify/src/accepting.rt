@@ -5,8 +5,9 @@ ghost use Rattle.hsr_network_laws.specs.Network.{start_of};
 ghost use Rattle.hsr_node.specs.Copies.{address_at};
 ghost use Rattle.hsr_node.specs.declared.place.Place.TheVariants.{QuadBox};
 ghost use Rattle.hsr_plays.specs.Conditions.{is_sent_from};
-ghost use Rattle.hsr_plays.specs.Spans.{cut_after, cut_behind, is_cut_at, is_down, is_down_in, steps_of};
+ghost use Rattle.hsr_plays.specs.Spans.{is_down};
 ghost use Rattle.hsr_routes.specs.Routes.{bare};
+ghost use Rattle.hsr_send_spans.specs.Down.{AreCutAt};
 ghost use Rattle.hsr_certify.specs.Firsts.{first_step};
 ghost use Rattle.hsr_certify.specs.Tests.{channel_to, is_accepted, is_accepted_step, is_from, is_heard, is_heard_by, speaks};
 
@@ -15,7 +16,7 @@ use hsr_frame::{About, Mac, send_fault};
 use hsr_node::Place;
 use hsr_plays::SendSpan;
 use hsr_scenario::Order;
-use hsr_send_spans::{above, first_steps, steps_from};
+use hsr_send_spans::Cuts;
 use hsr_topology::{End, Topology};
 use hsr_world_steps::Step;
 
@@ -41,55 +42,23 @@ fn is_sent_from(src: Option<Mac>, dst: Mac, kind: u16, len: usize) -> bool
     }
 }
 
-/// Whether a link is cut behind a step.
-fn cut_after(link: usize, was: bool, order: &Order) -> bool
-    ensures { result ≡ cut_after link was order.now }
+/// Whether a link is down at some time of the span of a send. What is cut as the steps go on is kept from one question to the next.
+fn is_down(
+    topology: &Topology,
+    orders: &[Order],
+    cuts: &mut Cuts,
+    span: &SendSpan,
+    link: usize,
+) -> bool
+    requires link { link < length topology.now.links }
+    requires cuts { AreCutAt orders.now cuts.old.time cuts.old.links }
+    ensures down { result ≡ is_down orders.now span.now link }
+    ensures cuts { AreCutAt orders.now cuts.new.time cuts.new.links }
 {
-    match order {
-        Order::Step(Step::Cut { link: l }) => *l == link || was,
-        Order::Step(Step::Mend { link: l }) => *l != link && was,
-        _ => was,
-    }
-}
-
-/// Whether a link is cut behind these steps, before which it was so or not.
-fn cut_behind(link: usize, was: bool, steps: &[Order]) -> bool
-    ensures { result ≡ cut_behind link was steps.now }
-{
-    let mut is_cut = was;
-    let mut rest = steps;
-    // What is left is a variable, since the loop's invariant speaks of it.
-    while let Some((order, more)) = rest.split_first() {
-        is_cut = cut_after(link, is_cut, order);
-        rest = more;
-    }
-    is_cut
-}
-
-/// Whether a link is cut before these steps, or behind one of them.
-fn is_down_in(link: usize, was: bool, steps: &[Order]) -> bool
-    ensures { result ≡ is_down_in link was steps.now }
-{
-    let mut is_cut = was;
-    let mut rest = steps;
-    // What is left is a variable, since the loop's invariant speaks of it.
-    while let Some((order, more)) = rest.split_first() {
-        if is_cut {
-            return true;
-        }
-        is_cut = cut_after(link, is_cut, order);
-        rest = more;
-    }
-    is_cut
-}
-
-/// Whether a link is down at some time of the span of a send.
-fn is_down(orders: &[Order], span: &SendSpan, link: usize) -> bool
-    ensures { result ≡ is_down orders.now span.now link }
-{
-    let was = cut_behind(link, false, first_steps(orders, span.index));
-    let steps = first_steps(steps_from(orders, span.index), above(span.end, span.index));
-    is_down_in(link, was, steps)
+    // What it answers isn't used: its contract says that links are few, so that the set has a number for each.
+    let _ = topology.links();
+    *cuts = cuts.at(orders, span.index);
+    cuts.down_in(orders, span).has(link)
 }
 
 /// Whether a send comes from this address.
@@ -116,42 +85,51 @@ fn other_node(topology: &Topology, link: usize, is_first: bool) -> usize
 fn is_heard_by(
     topology: &Topology,
     orders: &[Order],
+    cuts: &mut Cuts,
     index: usize,
     mac: Mac,
     at: (usize, bool),
     span: &SendSpan,
 ) -> bool
-    requires { at.0 < length topology.now.links }
-    ensures { result ≡ is_heard_by (bare topology.now.places topology.now.links) orders.now index
-        mac (channel_to at) span.now }
+    requires link { at.0 < length topology.now.links }
+    requires cuts { AreCutAt orders.now cuts.old.time cuts.old.links }
+    ensures heard { result ≡ is_heard_by (bare topology.now.places topology.now.links) orders.now
+        index mac (channel_to at) span.now }
+    ensures cuts { AreCutAt orders.now cuts.new.time cuts.new.links }
 {
     let (link, is_first) = at;
     let asked = span.asked;
     asked.node == other_node(topology, link, is_first)
         && is_from(address_at(topology.places(), asked.node, asked.from), mac)
         && span.end <= index
-        && !is_down(orders, span, link)
         && was_lately(orders, index, span)
+        && !is_down(topology, orders, cuts, span, link)
 }
 
 /// Whether it heard the address by one of these sends.
+#[tactic(auto, using(crate::proofs::Newest::none_newer, crate::proofs::Newest::one_newer))]
 fn is_heard_over(
     topology: &Topology,
     orders: &[Order],
+    cuts: &mut Cuts,
     spans: &[SendSpan],
     index: usize,
     mac: Mac,
     at: (usize, bool),
 ) -> bool
-    requires { at.0 < length topology.now.links }
-    ensures { result ≡ list_any (is_heard_by (bare topology.now.places topology.now.links)
+    requires link { at.0 < length topology.now.links }
+    requires cuts { AreCutAt orders.now cuts.old.time cuts.old.links }
+    ensures heard { result ≡ list_any (is_heard_by (bare topology.now.places topology.now.links)
         orders.now index mac (channel_to at)) spans.now }
+    ensures cuts { AreCutAt orders.now cuts.new.time cuts.new.links }
 {
-    // The index is used by the loop's invariant alone.
-    for (i, span) in spans.iter().enumerate() {
-        if is_heard_by(topology, orders, index, mac, at, span) {
+    // The newest comes first: a RedBox that knows a Station has mostly heard it a few steps before.
+    let mut left = spans;
+    while let Some((newest, older)) = left.split_last() {
+        if is_heard_by(topology, orders, cuts, index, mac, at, newest) {
             return true;
         }
+        left = older;
     }
     false
 }
@@ -160,16 +138,19 @@ fn is_heard_over(
 fn is_heard(
     topology: &Topology,
     orders: &[Order],
+    cuts: &mut Cuts,
     spans: &[SendSpan],
     index: usize,
     node: usize,
     mac: Mac,
 ) -> bool
-    ensures { result ≡ is_heard (bare topology.now.places topology.now.links) orders.now spans.now
-        index node mac }
+    requires { AreCutAt orders.now cuts.old.time cuts.old.links }
+    ensures heard { result ≡ is_heard (bare topology.now.places topology.now.links) orders.now
+        spans.now index node mac }
+    ensures cuts { AreCutAt orders.now cuts.new.time cuts.new.links }
 {
     match topology.link_at(End { node, port: 2 }) {
-        Some(at) => is_heard_over(topology, orders, spans, index, mac, at),
+        Some(at) => is_heard_over(topology, orders, cuts, spans, index, mac, at),
         None => false,
     }
 }
@@ -178,18 +159,21 @@ fn is_heard(
 fn speaks(
     topology: &Topology,
     orders: &[Order],
+    cuts: &mut Cuts,
     spans: &[SendSpan],
     index: usize,
     node: usize,
     about: About,
 ) -> bool
-    ensures { result ≡ speaks (bare topology.now.places topology.now.links) orders.now spans.now
-        index node (slice_index_or topology.now.places node QuadBox) about }
+    requires { AreCutAt orders.now cuts.old.time cuts.old.links }
+    ensures speaks { result ≡ speaks (bare topology.now.places topology.now.links) orders.now
+        spans.now index node (slice_index_or topology.now.places node QuadBox) about }
+    ensures cuts { AreCutAt orders.now cuts.new.time cuts.new.links }
 {
     match (topology.places().get(node), about) {
         (Some(Place::Danh { .. } | Place::RedBox { .. }), About::Own) => true,
         (Some(Place::RedBox { .. }), About::Proxied(mac)) => {
-            is_heard(topology, orders, spans, index, node, mac)
+            is_heard(topology, orders, cuts, spans, index, node, mac)
         }
         _ => false,
     }
@@ -199,12 +183,15 @@ fn speaks(
 fn is_accepted_step(
     topology: &Topology,
     orders: &[Order],
+    cuts: &mut Cuts,
     spans: &[SendSpan],
     index: usize,
     step: &Step,
 ) -> bool
-    ensures { result ≡ is_accepted_step (bare topology.now.places topology.now.links) orders.now
-        spans.now index step.now }
+    requires { AreCutAt orders.now cuts.old.time cuts.old.links }
+    ensures accepted { result ≡ is_accepted_step (bare topology.now.places topology.now.links)
+        orders.now spans.now index step.now }
+    ensures cuts { AreCutAt orders.now cuts.new.time cuts.new.links }
 {
     let nodes = topology.places().len();
     let links = topology.links().len();
@@ -226,7 +213,7 @@ fn is_accepted_step(
                 )
         }
         Step::Supervise { node, about } => {
-            *node < nodes && speaks(topology, orders, spans, index, *node, *about)
+            *node < nodes && speaks(topology, orders, cuts, spans, index, *node, *about)
         }
         Step::Age { node } => *node < nodes,
         Step::Cut { link } | Step::Mend { link } => *link < links,
@@ -238,15 +225,18 @@ fn is_accepted_step(
 fn is_accepted(
     topology: &Topology,
     orders: &[Order],
+    cuts: &mut Cuts,
     spans: &[SendSpan],
     index: usize,
     order: &Order,
 ) -> bool
-    ensures { result ≡ is_accepted (bare topology.now.places topology.now.links) orders.now
-        spans.now index order.now }
+    requires { AreCutAt orders.now cuts.old.time cuts.old.links }
+    ensures accepted { result ≡ is_accepted (bare topology.now.places topology.now.links)
+        orders.now spans.now index order.now }
+    ensures cuts { AreCutAt orders.now cuts.new.time cuts.new.links }
 {
     match order {
-        Order::Step(step) => is_accepted_step(topology, orders, spans, index, step),
+        Order::Step(step) => is_accepted_step(topology, orders, cuts, spans, index, step),
         Order::Drain => true,
     }
 }
@@ -260,8 +250,9 @@ pub(crate) fn first_refused(
     ensures { result ≡ first_step (is_accepted (bare topology.now.places topology.now.links)
         orders.now spans.now) 0 orders.now }
 {
+    let mut cuts = Cuts::new();
     for (i, order) in orders.iter().enumerate() {
-        if !is_accepted(topology, orders, spans, i, order) {
+        if !is_accepted(topology, orders, &mut cuts, spans, i, order) {
             return Some(i);
         }
     }

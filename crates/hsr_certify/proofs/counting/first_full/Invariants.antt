@@ -1,6 +1,6 @@
 use Rattle.std.proofs.Common.{◌≡◌, drop}
 use Rattle.hsr_certify.specs.Firsts.{first_send}
-use Rattle.hsr_certify.specs.Standing.{HaveEnded}
+use Rattle.hsr_certify.proofs.Standing.{HaveEnded}
 use Rattle.hsr_certify.specs.Tests.{has_room}
 use Rattle.hsr_certify.proofs.counting.first_full.Given as goal
 

@@ -7,7 +7,7 @@ use Rattle.hsr_run_laws.specs.Run.{Run}
 use Rattle.hsr_plays.specs.Conditions.{is_numbered_by_then}
 use Rattle.hsr_plays.specs.declared.span.SendSpan.{SendSpan}
 use Rattle.hsr_routes.specs.Routes.{bare}
-use Rattle.hsr_certify.specs.Standing.{is_numbered_by}
+use Rattle.hsr_certify.proofs.Standing.{is_numbered_by}
 use Rattle.hsr_certify.specs.Tests.{is_unwrapped}
 use Rattle.hsr_certify.proofs.Seeking.{seek_found, seek_more, seek_none}
 use Rattle.hsr_certify.proofs.Standing.{counted_next, numbered_most}

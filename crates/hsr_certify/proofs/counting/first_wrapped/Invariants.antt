@@ -1,7 +1,7 @@
 use Rattle.std.proofs.Common.{◌≡◌, ◌<◌, ℕ, count_by, drop, slice_index, take}
 use Rattle.hsr_routes.specs.Routes.{bare}
 use Rattle.hsr_certify.specs.Firsts.{first_send}
-use Rattle.hsr_certify.specs.Standing.{is_numbered_by}
+use Rattle.hsr_certify.proofs.Standing.{is_numbered_by}
 use Rattle.hsr_certify.specs.Tests.{is_unwrapped}
 use Rattle.hsr_certify.proofs.counting.first_wrapped.Given as goal
 
