@@ -1,5 +1,8 @@
 pub mod Powers
 pub mod Passing
+pub mod Places
+pub mod Naming
+pub mod Moving
 pub mod Walking
 pub mod PcapWalking
 pub mod Written

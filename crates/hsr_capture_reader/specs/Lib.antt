@@ -4,7 +4,11 @@ pub mod Fields
 pub mod Options
 pub mod Blocks
 pub mod Reading
+pub mod Rooms
 pub mod Pcapng
 pub mod Pcap
 pub mod Capture
+pub mod Names
+pub mod Packing
+pub mod Told
 pub mod Written

@@ -26,6 +26,9 @@ impl<'a> Model for Block<'a> {
 /// The type of a block that begins a section: its octets are the same in either byte order.
 pub(crate) const SECTION: u32 = 0x0A0D_0D0A;
 
+/// What stands in front of a block's body: its type and its length.
+pub(crate) const HEAD: usize = 8;
+
 /// The shortest block: type, length, and length again.
 const SHORTEST: usize = 12;
 
@@ -104,6 +107,6 @@ pub(crate) fn block_of(offset: usize, start: Start, octets: &[u8]) -> Block<'_>
         offset,
         order: start.order,
         block_type: start.order.u32_at(octets, 0),
-        body: &octets[8..start.len - 4],
+        body: &octets[HEAD..start.len - 4],
     }
 }

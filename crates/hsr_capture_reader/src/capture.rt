@@ -1,14 +1,22 @@
 //! A whole capture.
-ghost use Rattle.std.specs.Prelude.{◌≡◌, Ok};
+ghost use Rattle.std.specs.Prelude.{◌≡◌, ◌≤◌, length, Ok, IfOk};
 ghost use Rattle.hsr_capture_reader.specs.Capture.{capture_in, capture_of, is_gzip, reading_of};
 ghost use Rattle.hsr_capture_reader.specs.Reading.{Gives};
+ghost use Rattle.hsr_capture_reader.specs.Rooms.{Reads};
+ghost use Rattle.hsr_capture_reader.specs.Told.{Tells, capture_by};
 
 use crate::blocks::is_section;
 use crate::fault::{CaptureFault, ReadFault};
 use crate::fields::{Interface, Losses, Packet};
+use crate::names::{interfaces_by, names_of};
+use crate::options::{behind, front};
+use crate::packing::pack;
 use crate::pcap::{format_of, pcap_of};
 use crate::reading::{Reading, refused};
+use crate::rooms::packets_by;
+use crate::told::Told;
 use crate::walk::pcapng_of;
+use hsr_frame::NoMemory;
 use std::alloc::Global;
 use std::marker::Model;
 
@@ -47,7 +55,8 @@ fn is_gzip(octets: &[u8]) -> bool
 
 /// What is read of a file.
 fn reading_of<'a>(alloc: Global, fcs: u8, octets: &'a [u8]) -> Result<Reading<'a>, ReadFault>
-    ensures { Gives result (reading_of fcs octets.now) }
+    ensures value { Reads result (reading_of fcs octets.now) }
+    ensures file { IfOk result (λ reading. reading.file ≡ octets.now) }
 {
     if octets.len() > MOST_OCTETS {
         return Err(refused(0, CaptureFault::TooLarge));
@@ -64,37 +73,78 @@ fn reading_of<'a>(alloc: Global, fcs: u8, octets: &'a [u8]) -> Result<Reading<'a
     }
 }
 
-/// The capture that was read.
-fn capture_in<'a>(reading: Reading<'a>) -> Capture<'a>
-    ensures { capture_in reading.entry ≡ Ok result }
+/// What was read of a file, without references into it.
+fn told_in(alloc: Global, reading: Reading<'_>) -> Result<Told, NoMemory>
+    ensures value { IfOk result (λ told. capture_in reading.entry.read ≡ Ok (capture_by reading.entry.file told)) }
+    ensures many { IfOk result (λ told. length told.rooms.items ≤ 1048576) }
 {
     let Reading {
+        file: _,
         interfaces,
         earlier: _,
         losses,
-        packets,
+        rooms,
         stamp: _,
         end,
         is_short,
     } = reading;
-    Capture {
-        interfaces,
+    Ok(Told {
+        names: names_of(alloc, interfaces.as_slice())?,
         losses,
-        packets,
+        rooms,
         end,
         is_short,
-    }
+    })
+}
+
+/// What a file tells, without references into it.
+#[tactic(auto, unfolding(crate::specs::Capture::capture_of))]
+fn told_of(alloc: Global, fcs: u8, octets: &[u8]) -> Result<Told, ReadFault>
+    ensures value { Tells octets.now result (capture_of fcs octets.now) }
+    ensures many { IfOk result (λ told. length told.rooms.items ≤ 1048576) }
+{
+    let reading = reading_of(alloc, fcs, octets)?;
+    Ok(told_in(alloc, reading)?)
+}
+
+/// The capture that was told, in the octets of its file: what isn't the octets of a packet goes, and names come behind them.
+fn capture_by<'a>(
+    alloc: Global,
+    octets: &'a mut Vec<u8>,
+    told: Told,
+) -> Result<Capture<'a>, NoMemory>
+    requires { length told.rooms.items ≤ 1048576 }
+    ensures { IfOk result (λ capture. capture ≡ capture_by octets.old.items told) }
+{
+    let Told {
+        names,
+        losses,
+        mut rooms,
+        end,
+        is_short,
+    } = told;
+    pack(octets, &mut rooms);
+    let len = octets.len();
+    octets.extend_from_slice(names.names.as_slice())?;
+    octets.shrink_to_fit();
+    let octets = octets.as_slice();
+    Ok(Capture {
+        interfaces: interfaces_by(alloc, names.interfaces.as_slice(), behind(octets, len))?,
+        losses,
+        packets: packets_by(alloc, front(octets, len), rooms)?,
+        end,
+        is_short,
+    })
 }
 
 impl<'a> Capture<'a> {
     /// What a file tells, in either format; where it doesn't say how many octets of each packet are a frame check sequence, so
-    /// many are. `Refused` where something is wrong with it, with the first such offset; `NoMemory` where room is refused. No octet
-    /// of a packet is copied.
-    #[tactic(auto, unfolding(crate::specs::Capture::capture_of))]
-    pub fn read(alloc: Global, fcs: u8, octets: &'a [u8]) -> Result<Capture<'a>, ReadFault>
-        ensures { Gives result (capture_of fcs octets.now) }
+    /// many are. `Refused` where something is wrong with it, with the first such offset; `NoMemory` where room is refused. The
+    /// packets and the names stay in the memory of the file, and what else it has goes.
+    pub fn read(alloc: Global, fcs: u8, octets: &'a mut Vec<u8>) -> Result<Capture<'a>, ReadFault>
+        ensures { Gives result (capture_of fcs octets.old.items) }
     {
-        let reading = reading_of(alloc, fcs, octets)?;
-        Ok(capture_in(reading))
+        let told = told_of(alloc, fcs, octets.as_slice())?;
+        Ok(capture_by(alloc, octets, told)?)
     }
 }

@@ -1,4 +1,5 @@
 //! Why a file can't be read.
+use hsr_frame::NoMemory;
 use std::alloc::{AllocError, AllocFailed};
 
 /// What is wrong with a file.
@@ -62,6 +63,17 @@ impl<T: Drop> From<AllocFailed<T>> for ReadFault {
     ghost from_gives = { λ _ fault. fault ≡ NoRoom };
 
     fn from(_refused: AllocFailed<T>) -> ReadFault {
+        ReadFault::NoMemory
+    }
+}
+
+impl From<NoMemory> for ReadFault {
+    ghost use Rattle.std.specs.Prelude.{◌≡◌};
+    ghost use Rattle.hsr_capture_reader.specs.declared.fault.ReadFault.TheVariants.{NoMemory as NoRoom};
+
+    ghost from_gives = { λ _ fault. fault ≡ NoRoom };
+
+    fn from(_refused: NoMemory) -> ReadFault {
         ReadFault::NoMemory
     }
 }

@@ -83,7 +83,7 @@ pub enum Way {
     Out,
 }
 
-/// A packet that was captured.
+/// A packet that was captured. Its fields stand as they take least memory.
 #[derive(Drop)]
 pub struct Packet<'a> {
     /// Nanoseconds since 1970.
@@ -92,10 +92,10 @@ pub struct Packet<'a> {
     pub octets: &'a [u8],
     /// How many octets it had on the wire, without its frame check sequence.
     pub length: usize,
-    /// Which of the file's packets it is, from 1.
-    pub number: u32,
     /// The number of its interface in the file, from 0.
     pub interface: usize,
+    /// Which of the file's packets it is, from 1.
+    pub number: u32,
     /// Its direction, where its flags say one.
     pub way: Option<Way>,
 }

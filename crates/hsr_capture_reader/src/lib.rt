@@ -8,12 +8,16 @@
 //! - `numbers`: numbers in either byte order
 //! - `clock`: the stamps of an interface, as moments
 //! - `fields`: interfaces, what was lost at them, packets
+//! - `rooms`: a packet while its file is read
 //! - `reading`: what was read so far
 //! - `options`: the options of a block
 //! - `blocks`: where the blocks of a pcapng file stand
 //! - `pcapng`: what its blocks tell
 //! - `walk`: a whole pcapng file
 //! - `pcap`: the older format
+//! - `names`: the names of interfaces, which are kept behind the packets
+//! - `packing`: the octets of the packets, moved to the front of their file
+//! - `told`: what a file told, without references into it
 //! - `capture`: a whole capture, its call
 //! - `law`: what is written is read
 #![tactic(auto)]
@@ -24,11 +28,15 @@ mod clock;
 mod fault;
 mod fields;
 mod law;
+mod names;
 mod numbers;
 mod options;
+mod packing;
 mod pcap;
 mod pcapng;
 mod reading;
+mod rooms;
+mod told;
 mod walk;
 
 pub use capture::Capture;

@@ -1,16 +1,19 @@
 //! The older format, pcap (draft-ietf-opsawg-pcap).
-ghost use Rattle.std.specs.Prelude.{◌≡◌, ◌+◌, ◌<◌, ◌≤◌, drop, length, Ok, Err, IfOk, IfErr, IfNone, IfSome};
+ghost use Rattle.std.specs.Prelude.{◌≡◌, ◌+◌, ◌<◌, ◌≤◌, drop, length, take, Ok, Err, IfOk, IfErr, IfNone, IfSome};
 ghost use Rattle.hsr_capture_reader.specs.declared.fault.CaptureFault.{CaptureFault};
 ghost use Rattle.hsr_capture_reader.specs.declared.fault.ReadFault.TheVariants.{Refused};
 ghost use Rattle.hsr_capture_reader.specs.Pcap.{captured_at, format_by, format_of, fraction_of, interface_of, kept_at, packets_past, pcap_of};
-ghost use Rattle.hsr_capture_reader.specs.Reading.{Fails, Gives};
+ghost use Rattle.hsr_capture_reader.specs.Numbers.{number32};
+ghost use Rattle.hsr_capture_reader.specs.Reading.{Fails};
+ghost use Rattle.hsr_capture_reader.specs.Rooms.{Reads};
 
 use crate::clock::Clock;
 use crate::fault::{CaptureFault, ReadFault};
 use crate::fields::Interface;
 use crate::numbers::ByteOrder;
 use crate::options::{behind, front};
-use crate::reading::{Captured, Reading, nothing_read, pushed, refused, with_interface};
+use crate::reading::{Reading, nothing_read, pushed, refused, with_interface};
+use crate::rooms::Captured;
 use std::alloc::Global;
 
 /// What the magic number of a file says: its byte order, and whether fractions of a second are nanoseconds or microseconds.
@@ -120,7 +123,9 @@ fn fraction_of(format: Format) -> u64
 #[tactic(auto, unfolding(crate::specs::Pcap::captured_at))]
 fn captured_at<'a>(fcs: u8, format: Format, octets: &'a [u8]) -> Captured<'a>
     requires { 16 ≤ length octets.now }
-    ensures { result ≡ captured_at fcs format octets.now }
+    ensures value { result ≡ captured_at fcs format octets.now }
+    ensures octets { result.octets ≡ take (number32 format.order octets.now 8) (drop 16 octets.now) }
+    ensures interface { result.interface ≡ 0 }
 {
     let order = format.order;
     let seconds = u64::from(order.u32_at(octets, 0));
@@ -140,7 +145,7 @@ fn captured_at<'a>(fcs: u8, format: Format, octets: &'a [u8]) -> Captured<'a>
 
 /// A packet that stands first, at an offset of its file, with what was read before, and how many octets it has with its header;
 /// where the file breaks off before its end, what was read.
-#[tactic(auto, using(crate::proofs::PcapWalking::packets_go_on, crate::proofs::PcapWalking::packet_fails, crate::proofs::PcapWalking::packets_break_off, crate::proofs::PcapWalking::packet_is_refused))]
+#[tactic(auto, using(crate::proofs::PcapWalking::packets_go_on, crate::proofs::PcapWalking::packet_fails, crate::proofs::PcapWalking::packets_break_off, crate::proofs::PcapWalking::packet_is_refused, crate::proofs::Places::packet_stands))]
 fn packet_told<'a>(
     reading: Reading<'a>,
     offset: usize,
@@ -148,15 +153,17 @@ fn packet_told<'a>(
     format: Format,
     left: &'a [u8],
 ) -> Result<(Reading<'a>, Option<usize>), ReadFault>
-    requires { 0 < length left.now }
+    requires some { 0 < length left.now }
+    requires left { left.now ≡ drop offset reading.file }
     ensures goes_on { IfOk result (λ s. IfSome s.1 (λ n.
-        packets_past 0 offset fcs format reading.entry left.now
-        ≡ packets_past 0 (offset + n) fcs format s.0 (drop n left.now))) }
+        packets_past 0 offset fcs format reading.entry.read left.now
+        ≡ packets_past 0 (offset + n) fcs format s.0.read (drop n left.now))) }
     ensures room { IfOk result (λ s. IfSome s.1 (λ n. (0 < n) × (n ≤ length left.now))) }
     ensures ends { IfOk result (λ s. IfNone s.1
-        (packets_past 0 offset fcs format reading.entry left.now ≡ Ok s.0)) }
+        (packets_past 0 offset fcs format reading.entry.read left.now ≡ Ok s.0.read)) }
     ensures fails { IfErr result (λ e.
-        Fails e (packets_past 0 offset fcs format reading.entry left.now)) }
+        Fails e (packets_past 0 offset fcs format reading.entry.read left.now)) }
+    ensures file { IfOk result (λ s. s.0.file ≡ reading.entry.file) }
 {
     let mut reading = reading;
     let Some(kept) = kept_there(offset, format.order, left)? else {
@@ -164,7 +171,7 @@ fn packet_told<'a>(
         return Ok((reading, None));
     };
     let captured = captured_at(fcs, format, left);
-    let reading = pushed(reading, offset, &captured)?;
+    let reading = pushed(reading, offset, offset + PACKET_HEADER, &captured)?;
     Ok((reading, Some(PACKET_HEADER + kept)))
 }
 
@@ -174,14 +181,14 @@ fn packets_in<'a>(
     reading: Reading<'a>,
     fcs: u8,
     format: Format,
-    octets: &'a [u8],
 ) -> Result<Reading<'a>, ReadFault>
-    requires { 24 ≤ length octets.now }
-    ensures { Gives result (packets_past 0 24 fcs format reading.entry (drop 24 octets.now)) }
+    requires { 24 ≤ length reading.file }
+    ensures value { Reads result (packets_past 0 24 fcs format reading.entry.read (drop 24 reading.entry.file)) }
+    ensures file { IfOk result (λ next. next.file ≡ reading.entry.file) }
 {
     let mut reading = reading;
     let mut offset = HEADER;
-    let mut left = behind(octets, HEADER);
+    let mut left = behind(reading.file, HEADER);
     while !left.is_empty() {
         let (next, taken) = packet_told(reading, offset, fcs, format, left)?;
         reading = next;
@@ -202,13 +209,15 @@ pub(crate) fn pcap_of<'a>(
     format: Format,
     octets: &'a [u8],
 ) -> Result<Reading<'a>, ReadFault>
-    ensures { Gives result (pcap_of fcs format octets.now) }
+    requires { length octets.now ≤ 268435456 }
+    ensures value { Reads result (pcap_of fcs format octets.now) }
+    ensures file { IfOk result (λ reading. reading.file ≡ octets.now) }
 {
     if octets.len() < HEADER {
         return Err(refused(0, CaptureFault::Header));
     }
     let interface = interface_of(fcs, format, octets);
     let fcs = interface.fcs;
-    let reading = with_interface(nothing_read(alloc), interface)?;
-    packets_in(reading, fcs, format, octets)
+    let reading = with_interface(nothing_read(alloc, octets), interface)?;
+    packets_in(reading, fcs, format)
 }

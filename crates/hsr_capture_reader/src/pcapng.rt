@@ -1,27 +1,32 @@
 //! What the blocks of a pcapng file tell (draft-ietf-opsawg-pcapng, section 4).
-ghost use Rattle.std.specs.Prelude.{◌≡◌, ◌+◌, ◌<◌, ◌≤◌, length, OnOk};
+ghost use Rattle.std.specs.Prelude.{◌≡◌, ◌+◌, ◌<◌, ◌≤◌, drop, length, take, IfOk, OnOk};
 ghost use Rattle.std.specs.Option.{option_copied};
 ghost use Rattle.hsr_capture_reader.specs.Pcapng.{captured_in, captured_there, captured_told, clock_in, counted, end_of, enhanced_told, fcs_in, flags_in, interface_in, interface_told, kept_in, name_in, noted, obsolete_told, options_in, section_told, simple_in, simple_told, snapped, stamp_at, stamped_told, statistics_told, sum_of, told, way_in};
-ghost use Rattle.hsr_capture_reader.specs.Reading.{Gives};
+ghost use Rattle.hsr_capture_reader.specs.Rooms.{Reads, StandAt};
 
-use crate::blocks::{Block, SECTION};
+use crate::blocks::{Block, HEAD, SECTION};
 use crate::clock::Clock;
 use crate::fault::{CaptureFault, ReadFault, Refusal};
 use crate::fields::{Interface, Way};
 use crate::numbers::{ByteOrder, in_halves};
 use crate::options::{behind, front, octet_option, option_of, wide_option};
-use crate::reading::{Captured, Reading, pushed, refused, with_interface};
+use crate::reading::{Reading, pushed, refused, with_interface};
+use crate::rooms::Captured;
 
 /// The most interfaces of a capture.
 const MOST_INTERFACES: usize = 64;
 
-/// What stands in front of the octets of a packet with a stamp.
+/// What stands in front of the octets of a packet with a stamp, in its block's body.
 const STAMPED_HEAD: usize = 20;
+
+/// The same, of a packet without a stamp.
+const SIMPLE_HEAD: usize = 4;
 
 /// A section header.
 #[tactic(auto, unfolding(crate::specs::Pcapng::section_told))]
 fn section_told<'a>(reading: Reading<'a>, block: &Block<'a>) -> Result<Reading<'a>, ReadFault>
-    ensures { Gives result (section_told reading.entry block.now) }
+    ensures value { Reads result (section_told reading.entry.read block.now) }
+    ensures file { IfOk result (λ next. next.file ≡ reading.entry.file) }
 {
     if block.body.len() < 16 {
         return Err(refused(block.offset, CaptureFault::Block));
@@ -80,7 +85,8 @@ fn interface_told<'a>(
     reading: Reading<'a>,
     block: &Block<'a>,
 ) -> Result<Reading<'a>, ReadFault>
-    ensures { Gives result (interface_told fcs reading.entry block.now) }
+    ensures value { Reads result (interface_told fcs reading.entry.read block.now) }
+    ensures file { IfOk result (λ next. next.file ≡ reading.entry.file) }
 {
     if block.body.len() < 8 {
         return Err(refused(block.offset, CaptureFault::Block));
@@ -151,7 +157,9 @@ fn options_in<'a>(block: &Block<'a>) -> &'a [u8]
 #[tactic(auto, unfolding(crate::specs::Pcapng::captured_in))]
 fn captured_in<'a>(block: &Block<'a>, number: usize, interface: &Interface<'_>) -> Captured<'a>
     requires { 20 ≤ length block.now.body }
-    ensures { result ≡ captured_in block.now number interface.now }
+    ensures value { result ≡ captured_in block.now number interface.now }
+    ensures octets { result.octets ≡ take (kept_in block.now) (drop 20 block.now.body) }
+    ensures interface { result.interface ≡ number }
 {
     let flags = flags_in(block.order, options_in(block));
     Captured {
@@ -168,8 +176,9 @@ fn captured_in<'a>(block: &Block<'a>, number: usize, interface: &Interface<'_>) 
 #[tactic(auto, unfolding(crate::specs::Pcapng::noted))]
 fn noted<'a>(reading: Reading<'a>, block: &Block<'a>, number: usize, moment: u64) -> Reading<'a>
     requires body { 20 ≤ length block.now.body }
-    requires number { number < length reading.interfaces }
-    ensures { result ≡ noted reading.entry block.now number moment }
+    requires number { number < length reading.read.interfaces }
+    ensures value { result.read ≡ noted reading.entry.read block.now number moment }
+    ensures file { result.file ≡ reading.entry.file }
 {
     let mut reading = reading;
     reading.stamp = moment;
@@ -187,11 +196,15 @@ fn captured_told<'a>(
     captured: Captured<'a>,
 ) -> Result<Reading<'a>, ReadFault>
     requires body { 20 ≤ length block.now.body }
-    requires number { number < length reading.interfaces }
-    ensures { Gives result (captured_told reading.entry block.now number captured.entry) }
+    requires number { number < length reading.read.interfaces }
+    requires stands { StandAt reading.file (block.now.offset + 28) captured.octets }
+    requires interface { captured.interface < 64 }
+    ensures value { Reads result (captured_told reading.entry.read block.now number captured.entry) }
+    ensures file { IfOk result (λ next. next.file ≡ reading.entry.file) }
 {
     let reading = noted(reading, block, number, captured.moment);
-    pushed(reading, block.offset, &captured)
+    let at = block.offset + HEAD + STAMPED_HEAD;
+    pushed(reading, block.offset, at, &captured)
 }
 
 /// The packet of a block, of the interface with this number in the capture.
@@ -204,6 +217,8 @@ fn captured_there<'a>(
     requires { 20 ≤ length block.now.body }
     ensures value { result ≡ captured_there interfaces.now block.now number }
     ensures there { OnOk result (number < length interfaces.now) }
+    ensures octets { IfOk result (λ captured. captured.octets ≡ take (kept_in block.now) (drop 20 block.now.body)) }
+    ensures interface { IfOk result (λ captured. captured.interface ≡ number) }
 {
     let offset = block.offset;
     let Some(interface) = interfaces.get(number) else {
@@ -222,14 +237,16 @@ fn captured_there<'a>(
 }
 
 /// A packet with a stamp, of the interface with this number in its section.
-#[tactic(auto, unfolding(crate::specs::Pcapng::stamped_told))]
+#[tactic(auto, using(crate::proofs::Places::captured_stands), unfolding(crate::specs::Pcapng::stamped_told))]
 fn stamped_told<'a>(
     reading: Reading<'a>,
     block: &Block<'a>,
     number: u32,
 ) -> Result<Reading<'a>, ReadFault>
-    requires { 20 ≤ length block.now.body }
-    ensures { Gives result (stamped_told reading.entry block.now number) }
+    requires body { 20 ≤ length block.now.body }
+    requires stands { StandAt reading.file (block.now.offset + 8) block.now.body }
+    ensures value { Reads result (stamped_told reading.entry.read block.now number) }
+    ensures file { IfOk result (λ next. next.file ≡ reading.entry.file) }
 {
     let number = reading.earlier + number as usize;
     let captured = captured_there(reading.interfaces.as_slice(), block, number)?;
@@ -239,7 +256,9 @@ fn stamped_told<'a>(
 /// An enhanced packet.
 #[tactic(auto, unfolding(crate::specs::Pcapng::enhanced_told))]
 fn enhanced_told<'a>(reading: Reading<'a>, block: &Block<'a>) -> Result<Reading<'a>, ReadFault>
-    ensures { Gives result (enhanced_told reading.entry block.now) }
+    requires stands { StandAt reading.file (block.now.offset + 8) block.now.body }
+    ensures value { Reads result (enhanced_told reading.entry.read block.now) }
+    ensures file { IfOk result (λ next. next.file ≡ reading.entry.file) }
 {
     if block.body.len() < STAMPED_HEAD {
         return Err(refused(block.offset, CaptureFault::Block));
@@ -250,7 +269,9 @@ fn enhanced_told<'a>(reading: Reading<'a>, block: &Block<'a>) -> Result<Reading<
 /// An obsolete packet.
 #[tactic(auto, unfolding(crate::specs::Pcapng::obsolete_told))]
 fn obsolete_told<'a>(reading: Reading<'a>, block: &Block<'a>) -> Result<Reading<'a>, ReadFault>
-    ensures { Gives result (obsolete_told reading.entry block.now) }
+    requires stands { StandAt reading.file (block.now.offset + 8) block.now.body }
+    ensures value { Reads result (obsolete_told reading.entry.read block.now) }
+    ensures file { IfOk result (λ next. next.file ≡ reading.entry.file) }
 {
     if block.body.len() < STAMPED_HEAD {
         return Err(refused(block.offset, CaptureFault::Block));
@@ -292,9 +313,11 @@ fn simple_in<'a>(
 }
 
 /// A simple packet.
-#[tactic(auto, unfolding(crate::specs::Pcapng::simple_told))]
+#[tactic(auto, using(crate::proofs::Places::captured_stands), unfolding(crate::specs::Pcapng::simple_told))]
 fn simple_told<'a>(reading: Reading<'a>, block: &Block<'a>) -> Result<Reading<'a>, ReadFault>
-    ensures { Gives result (simple_told reading.entry block.now) }
+    requires stands { StandAt reading.file (block.now.offset + 8) block.now.body }
+    ensures value { Reads result (simple_told reading.entry.read block.now) }
+    ensures file { IfOk result (λ next. next.file ≡ reading.entry.file) }
 {
     if block.body.len() < 4 {
         return Err(refused(block.offset, CaptureFault::Block));
@@ -303,7 +326,8 @@ fn simple_told<'a>(reading: Reading<'a>, block: &Block<'a>) -> Result<Reading<'a
         return Err(refused(block.offset, CaptureFault::Interface));
     };
     let captured = simple_in(reading.earlier, reading.stamp, block, interface);
-    pushed(reading, block.offset, &captured)
+    let at = block.offset + HEAD + SIMPLE_HEAD;
+    pushed(reading, block.offset, at, &captured)
 }
 
 /// When a capture ended, by what statistics say; 0 where they don't.
@@ -319,8 +343,9 @@ fn end_of(order: ByteOrder, clock: Clock, value: Option<&[u8]>) -> u64
 /// With what statistics say of an interface.
 #[tactic(auto, unfolding(crate::specs::Pcapng::counted))]
 fn counted<'a>(reading: Reading<'a>, block: &Block<'a>, number: usize, clock: Clock) -> Reading<'a>
-    requires { number < length reading.interfaces }
-    ensures { result ≡ counted reading.entry block.now number clock }
+    requires { number < length reading.read.interfaces }
+    ensures value { result.read ≡ counted reading.entry.read block.now number clock }
+    ensures file { result.file ≡ reading.entry.file }
 {
     let mut reading = reading;
     let options = behind(block.body, 12);
@@ -349,7 +374,8 @@ fn sum_of(at: Option<u64>, behind: Option<u64>) -> Option<u64>
 /// The statistics of an interface.
 #[tactic(auto, unfolding(crate::specs::Pcapng::statistics_told))]
 fn statistics_told<'a>(reading: Reading<'a>, block: &Block<'a>) -> Result<Reading<'a>, ReadFault>
-    ensures { Gives result (statistics_told reading.entry block.now) }
+    ensures value { Reads result (statistics_told reading.entry.read block.now) }
+    ensures file { IfOk result (λ next. next.file ≡ reading.entry.file) }
 {
     if block.body.len() < 12 {
         return Err(refused(block.offset, CaptureFault::Block));
@@ -369,7 +395,9 @@ pub(crate) fn told<'a>(
     reading: Reading<'a>,
     block: &Block<'a>,
 ) -> Result<Reading<'a>, ReadFault>
-    ensures { Gives result (told fcs reading.entry block.now) }
+    requires stands { StandAt reading.file (block.now.offset + 8) block.now.body }
+    ensures value { Reads result (told fcs reading.entry.read block.now) }
+    ensures file { IfOk result (λ next. next.file ≡ reading.entry.file) }
 {
     match block.block_type {
         SECTION => section_told(reading, block),

@@ -1,24 +1,27 @@
 //! What was read so far.
-ghost use Rattle.std.specs.Prelude.{◌≡◌, ◌<◌, [], length, Ok, Err, IfOk};
+ghost use Rattle.std.specs.Prelude.{◌≡◌, ◌<◌, ◌≤◌, length, Ok, IfOk};
 ghost use Rattle.hsr_capture_reader.specs.declared.fault.ReadFault.TheVariants.{Refused};
-ghost use Rattle.hsr_capture_reader.specs.Fields.{InterfaceFields, PacketFields};
-ghost use Rattle.hsr_capture_reader.specs.Pcapng.{packet_of, pushed};
-ghost use Rattle.hsr_capture_reader.specs.Reading.{Gives, nothing_read, with_interface};
+ghost use Rattle.hsr_capture_reader.specs.Pcapng.{pushed};
+ghost use Rattle.hsr_capture_reader.specs.Reading.{nothing_read, with_interface};
+ghost use Rattle.hsr_capture_reader.specs.Rooms.{Reads, StandAt};
 
 use crate::fault::{CaptureFault, ReadFault, Refusal};
-use crate::fields::{Interface, Losses, Packet, Way};
-use crate::options::front;
+use crate::fields::{Interface, Losses};
+use crate::rooms::{Captured, Room, room_of};
 use std::alloc::Global;
 use std::marker::Model;
 
 /// What was read of a file.
 #[derive(Drop)]
 pub(crate) struct Reading<'a> {
+    /// The whole file.
+    pub(crate) file: &'a [u8],
     pub(crate) interfaces: Vec<Interface<'a>>,
     /// How many of the interfaces are of earlier sections.
     pub(crate) earlier: usize,
     pub(crate) losses: Vec<Losses>,
-    pub(crate) packets: Vec<Packet<'a>>,
+    /// The packets.
+    pub(crate) rooms: Vec<Room>,
     /// The latest stamp that was read, as a moment.
     pub(crate) stamp: u64,
     /// The latest end that statistics say, as a moment; 0 where none do.
@@ -28,13 +31,13 @@ pub(crate) struct Reading<'a> {
 
 impl<'a> Model for Reading<'a> {
     ghost use Rattle.std.specs.Prelude.{◌≡◌, ◌≤◌, length};
-    ghost use Rattle.hsr_capture_reader.specs.Reading.{ReadingFields};
+    ghost use Rattle.hsr_capture_reader.specs.Rooms.{Held, packets_by};
 
-    ghost Value = { ReadingFields };
+    ghost Value = { Held };
 
-    ghost view = { λ r. record { interfaces = r.interfaces.items; earlier = r.earlier; losses = r.losses.items; packets = r.packets.items; stamp = r.stamp; end = r.end; is_short = r.is_short } };
+    ghost view = { λ r. record { file = r.file.now; read = record { interfaces = r.interfaces.items; earlier = r.earlier; losses = r.losses.items; packets = packets_by r.file.now 0 r.rooms.items; stamp = r.stamp; end = r.end; is_short = r.is_short } } };
 
-    ghost invariant = { λ r. (length r.losses.items ≡ length r.interfaces.items) × (r.earlier ≤ length r.interfaces.items) × (length r.interfaces.items ≤ 64) };
+    ghost invariant = { λ r. (length r.losses.items ≡ length r.interfaces.items) × (r.earlier ≤ length r.interfaces.items) × (length r.interfaces.items ≤ 64) × (length r.rooms.items ≤ 1048576) × (length r.file.now ≤ 268435456) };
 }
 
 /// The most packets of a capture.
@@ -47,59 +50,24 @@ pub(crate) fn refused(offset: usize, fault: CaptureFault) -> ReadFault
     ReadFault::Refused(Refusal { offset, fault })
 }
 
-/// A packet as it was captured: on the wire it had `wire` octets, of which `fcs` are its frame check sequence.
-#[derive(Drop)]
-pub(crate) struct Captured<'a> {
-    pub(crate) interface: usize,
-    pub(crate) moment: u64,
-    pub(crate) way: Option<Way>,
-    pub(crate) fcs: u8,
-    pub(crate) octets: &'a [u8],
-    pub(crate) wire: u32,
-}
-
-impl<'a> Model for Captured<'a> {
-    ghost use Rattle.hsr_capture_reader.specs.Pcapng.{CapturedFields};
-
-    ghost Value = { CapturedFields };
-
-    ghost view = { λ c. record { interface = c.interface; moment = c.moment; way = c.way; fcs = c.fcs; octets = c.octets.now; wire = c.wire } };
-}
-
-/// The next packet, behind these.
-fn packet_of<'a>(packets: &[Packet<'a>], captured: &Captured<'a>) -> Packet<'a>
-    requires { length packets.now < 1048576 }
-    ensures { result ≡ packet_of packets.now captured.now }
-{
-    let wire = captured.wire as usize;
-    let length = wire
-        .max(captured.octets.len())
-        .saturating_sub(usize::from(captured.fcs));
-    Packet {
-        moment: captured.moment,
-        octets: front(captured.octets, length),
-        length,
-        number: packets.len() as u32 + 1,
-        interface: captured.interface,
-        way: captured.way,
-    }
-}
-
-/// With one more packet, whose block or header stands at an offset.
-#[tactic(auto, unfolding(crate::specs::Pcapng::pushed))]
+/// With one more packet, whose block or header stands at an offset, and whose octets at a place of the file.
+#[tactic(auto, using(crate::proofs::Places::last_room, crate::proofs::Places::many_rooms), unfolding(crate::specs::Pcapng::pushed))]
 pub(crate) fn pushed<'a>(
     reading: Reading<'a>,
     offset: usize,
+    at: usize,
     captured: &Captured<'a>,
 ) -> Result<Reading<'a>, ReadFault>
-    ensures { Gives result (pushed reading.entry offset captured.now) }
+    requires stands { StandAt reading.file at captured.now.octets }
+    requires interface { captured.now.interface < 64 }
+    ensures value { Reads result (pushed reading.entry.read offset captured.now) }
+    ensures file { IfOk result (λ next. next.file ≡ reading.entry.file) }
 {
     let mut reading = reading;
-    if reading.packets.len() >= MOST_PACKETS {
+    if reading.rooms.len() >= MOST_PACKETS {
         return Err(refused(offset, CaptureFault::Packets));
     }
-    let packet = packet_of(reading.packets.as_slice(), captured);
-    reading.packets.push(packet)?;
+    reading.rooms.push(room_of(at, captured))?;
     Ok(reading)
 }
 
@@ -108,8 +76,9 @@ pub(crate) fn with_interface<'a>(
     reading: Reading<'a>,
     interface: Interface<'a>,
 ) -> Result<Reading<'a>, ReadFault>
-    requires { length reading.interfaces < 64 }
-    ensures { Gives result (Ok (with_interface reading.entry interface.entry)) }
+    requires { length reading.read.interfaces < 64 }
+    ensures value { Reads result (Ok (with_interface reading.entry.read interface.entry)) }
+    ensures file { IfOk result (λ next. next.file ≡ reading.entry.file) }
 {
     let mut reading = reading;
     reading.losses.push(Losses::default())?;
@@ -117,15 +86,18 @@ pub(crate) fn with_interface<'a>(
     Ok(reading)
 }
 
-/// Nothing was read yet.
-pub(crate) fn nothing_read<'a>(alloc: Global) -> Reading<'a>
-    ensures { result ≡ nothing_read }
+/// Nothing was read yet of a file.
+pub(crate) fn nothing_read<'a>(alloc: Global, file: &'a [u8]) -> Reading<'a>
+    requires { length file.now ≤ 268435456 }
+    ensures value { result.read ≡ nothing_read }
+    ensures file { result.file ≡ file.now }
 {
     Reading {
+        file,
         interfaces: Vec::new(alloc),
         earlier: 0,
         losses: Vec::new(alloc),
-        packets: Vec::new(alloc),
+        rooms: Vec::new(alloc),
         stamp: 0,
         end: 0,
         is_short: false,

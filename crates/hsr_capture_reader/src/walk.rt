@@ -5,7 +5,8 @@ ghost use Rattle.hsr_capture_reader.specs.declared.fault.ReadFault.TheVariants.{
 ghost use Rattle.hsr_capture_reader.specs.declared.numbers.ByteOrder.TheVariants.{Little};
 ghost use Rattle.hsr_capture_reader.specs.Blocks.{blocks_past, start_of};
 ghost use Rattle.hsr_capture_reader.specs.Pcapng.{pcapng_of, read_blocks};
-ghost use Rattle.hsr_capture_reader.specs.Reading.{Fails, Gives};
+ghost use Rattle.hsr_capture_reader.specs.Reading.{Fails};
+ghost use Rattle.hsr_capture_reader.specs.Rooms.{Reads};
 
 use crate::blocks::{Start, block_of, start_of};
 use crate::fault::ReadFault;
@@ -32,7 +33,7 @@ fn start_at(offset: usize, before: ByteOrder, octets: &[u8]) -> Result<Option<St
 
 /// A block that stands first, at an offset of its file, with what was read before, and where it starts and ends; where the file
 /// breaks off before its end, what was read.
-#[tactic(auto, using(crate::proofs::Walking::goes_on, crate::proofs::Walking::fails_there, crate::proofs::Walking::breaks_off, crate::proofs::Walking::is_refused))]
+#[tactic(auto, using(crate::proofs::Walking::goes_on, crate::proofs::Walking::fails_there, crate::proofs::Walking::breaks_off, crate::proofs::Walking::is_refused, crate::proofs::Places::body_stands))]
 fn block_told<'a>(
     fcs: u8,
     reading: Reading<'a>,
@@ -40,17 +41,19 @@ fn block_told<'a>(
     before: ByteOrder,
     left: &'a [u8],
 ) -> Result<(Reading<'a>, Option<Start>), ReadFault>
-    requires { 0 < length left.now }
+    requires some { 0 < length left.now }
+    requires left { left.now ≡ drop offset reading.file }
     ensures goes_on { IfOk result (λ s. IfSome s.1 (λ start.
-        read_blocks fcs reading.entry (blocks_past 0 offset before left.now)
-        ≡ read_blocks fcs s.0
+        read_blocks fcs reading.entry.read (blocks_past 0 offset before left.now)
+        ≡ read_blocks fcs s.0.read
         (blocks_past 0 (offset + start.len) start.order (drop start.len left.now)))) }
     ensures room { IfOk result (λ s. IfSome s.1 (λ start.
         (0 < start.len) × (start.len ≤ length left.now))) }
     ensures ends { IfOk result (λ s. IfNone s.1
-        (read_blocks fcs reading.entry (blocks_past 0 offset before left.now) ≡ Ok s.0)) }
+        (read_blocks fcs reading.entry.read (blocks_past 0 offset before left.now) ≡ Ok s.0.read)) }
     ensures fails { IfErr result (λ e.
-        Fails e (read_blocks fcs reading.entry (blocks_past 0 offset before left.now))) }
+        Fails e (read_blocks fcs reading.entry.read (blocks_past 0 offset before left.now))) }
+    ensures file { IfOk result (λ s. s.0.file ≡ reading.entry.file) }
 {
     let mut reading = reading;
     let Some(start) = start_at(offset, before, left)? else {
@@ -64,17 +67,14 @@ fn block_told<'a>(
 
 /// What the blocks of a file tell, the first of which stands at its front.
 #[tactic(auto, using(crate::proofs::Walking::is_over))]
-fn read_blocks<'a>(
-    fcs: u8,
-    reading: Reading<'a>,
-    octets: &'a [u8],
-) -> Result<Reading<'a>, ReadFault>
-    ensures { Gives result (read_blocks fcs reading.entry (blocks_past 0 0 Little octets.now)) }
+fn read_blocks<'a>(fcs: u8, reading: Reading<'a>) -> Result<Reading<'a>, ReadFault>
+    ensures value { Reads result (read_blocks fcs reading.entry.read (blocks_past 0 0 Little reading.entry.file)) }
+    ensures file { IfOk result (λ next. next.file ≡ reading.entry.file) }
 {
     let mut reading = reading;
     let mut order = ByteOrder::Little;
     let mut offset = 0;
-    let mut left = octets;
+    let mut left = reading.file;
     while !left.is_empty() {
         let (next, start) = block_told(fcs, reading, offset, order, left)?;
         reading = next;
@@ -96,7 +96,9 @@ pub(crate) fn pcapng_of<'a>(
     fcs: u8,
     octets: &'a [u8],
 ) -> Result<Reading<'a>, ReadFault>
-    ensures { Gives result (pcapng_of fcs octets.now) }
+    requires { length octets.now ≤ 268435456 }
+    ensures value { Reads result (pcapng_of fcs octets.now) }
+    ensures file { IfOk result (λ reading. reading.file ≡ octets.now) }
 {
-    read_blocks(fcs, nothing_read(alloc), octets)
+    read_blocks(fcs, nothing_read(alloc, octets))
 }
