@@ -1,5 +1,5 @@
 -- Packets as rooms: where their octets stand in a file.
-use Rattle.std.proofs.Common.{◌≡◌, ℕ, zero, suc, ◌+◌, ◌-◌, ◌<◌, ◌≤◌, List, [], ◌∷◌, ◌++◌, length, take, drop, append_assoc, refl, sym, ap, subst, ◌∙◌, arith, le_refl}
+use Rattle.std.proofs.Common.{◌≡◌, ℕ, suc, ◌+◌, ◌-◌, ◌<◌, ◌≤◌, List, [], ◌∷◌, ◌++◌, length, take, drop, append_assoc, refl, sym, ap, subst, ◌∙◌, arith, le_refl}
 use Rattle.std.specs.Prelude.{min, reverse, slice_range}
 use Rattle.std.proofs.lemmas.List.{drop-drop, drop-take, length-drop, length-take, take-take, take_all, take_min, reverse-append}
 use Rattle.hsr_capture_reader.specs.declared.blocks.Start.{Start}
@@ -50,9 +50,10 @@ stand_behind file at octets n k stands within =
     let whole : n + left ≡ length octets = omega arith in
     let there : some ≡ take left (drop (at + n) file)
     = ap (drop n) (stands.1 ∙ ap (λ m. take m (drop at file)) (sym whole)) ∙ drop-take n left (drop at file) ∙ ap (take left) (drop-drop n at file) in
-    let first : take k some ≡ take (length (take k some)) some = sym (take_min k some) ∙ ap (λ m. take m some) (sym (length-take k some)) in
-    (omega (arith, many, stands.0),
-    first ∙ ap (take (length (take k some))) there ∙ take-take (length (take k some)) left (drop (at + n) file) (omega (arith, many)))
+    let first : take k some ≡ take (length (take k some)) some = sym (take_min k some) ∙ ap (λ m. take m some) (sym (length-take k some)) in (
+      omega (arith, many, stands.0),
+      first ∙ ap (take (length (take k some))) there ∙ take-take (length (take k some)) left (drop (at + n) file) (omega (arith, many)),
+    )
 
 -- the body of a block
 pub body_stands : (file left : List ℕ) (offset : ℕ) (start : Start) → left ≡ drop offset file → 12 ≤ start.len → start.len ≤ length left

@@ -177,11 +177,7 @@ fn packet_told<'a>(
 
 /// The packets of a file, which stand behind its header.
 #[tactic(auto, using(crate::proofs::PcapWalking::packets_are_over))]
-fn packets_in<'a>(
-    reading: Reading<'a>,
-    fcs: u8,
-    format: Format,
-) -> Result<Reading<'a>, ReadFault>
+fn packets_in<'a>(reading: Reading<'a>, fcs: u8, format: Format) -> Result<Reading<'a>, ReadFault>
     requires { 24 ≤ length reading.file }
     ensures value { Reads result (packets_past 0 24 fcs format reading.entry.read (drop 24 reading.entry.file)) }
     ensures file { IfOk result (λ next. next.file ≡ reading.entry.file) }

@@ -87,11 +87,11 @@ fn missing_of(numbers: &[usize], many: usize) -> Option<usize>
 fn capture_of<'a>(
     alloc: Global,
     looking: &Looking<'_>,
-    octets: &'a [u8],
+    octets: &'a mut Vec<u8>,
 ) -> Result<Capture<'a>, Fault>
-    ensures found { IfOk result (λ capture. capture_of looking.now.fcs octets.now ≡ Ok capture) }
+    ensures found { IfOk result (λ capture. capture_of looking.now.fcs octets.old.items ≡ Ok capture) }
     ensures bounded { IfOk result (λ capture. IsBounded capture) }
-    ensures fault { IfErr result (λ fault. IsUnseen looking.now octets.now fault) }
+    ensures fault { IfErr result (λ fault. IsUnseen looking.now octets.old.items fault) }
 {
     Ok(Capture::read(alloc, looking.fcs, octets)?)
 }
@@ -146,10 +146,10 @@ fn seen_of(
     alloc: Global,
     looking: &Looking<'_>,
     expected: &[Mac],
-    octets: &[u8],
+    octets: &mut Vec<u8>,
 ) -> Result<Seen, Fault>
-    ensures seen { IfOk result (λ seen. IsSeen looking.now expected.now octets.now seen) }
-    ensures unseen { IfErr result (λ fault. IsUnseen looking.now octets.now fault) }
+    ensures seen { IfOk result (λ seen. IsSeen looking.now expected.now octets.old.items seen) }
+    ensures unseen { IfErr result (λ fault. IsUnseen looking.now octets.old.items fault) }
 {
     let capture = capture_of(alloc, looking, octets)?;
     match lacking(alloc, looking, &capture)? {
@@ -190,8 +190,8 @@ fn seen_from<R: Read>(
     ensures seen { IfOk result (λ seen. IfSome (R.remaining reader.old) (λ octets. IsSeen looking.now expected.now octets seen)) }
     ensures unseen { IfErr result (λ fault. IfSome (R.remaining reader.old) (λ octets. IsUnseen looking.now octets fault)) }
 {
-    let octets = octets_from(alloc, reader)?;
-    seen_of(alloc, looking, expected, octets.as_slice())
+    let mut octets = octets_from(alloc, reader)?;
+    seen_of(alloc, looking, expected, &mut octets)
 }
 
 /// Writes what is seen of the capture that a reader gives, in which these sources are expected: all of it, or nothing. Gives how it ended.

@@ -62,11 +62,11 @@ fn judged(
     device: &Device,
     showing: Showing,
     fcs: u8,
-    octets: &[u8],
+    octets: &mut Vec<u8>,
 ) -> Result<Report, Fault>
     requires { device_of document.now ≡ Ok device.now }
-    ensures judged { IfOk result (λ report. IsJudged document.now showing fcs octets.now report.text.items report.is_well) }
-    ensures unjudged { IfErr result (λ fault. IsUnjudged document.now fcs octets.now fault) }
+    ensures judged { IfOk result (λ report. IsJudged document.now showing fcs octets.old.items report.text.items report.is_well) }
+    ensures unjudged { IfErr result (λ fault. IsUnjudged document.now fcs octets.old.items fault) }
 {
     let capture = Capture::read(alloc, fcs, octets)?;
     Ok(report_by(alloc, device, showing, capture)?)
@@ -88,8 +88,8 @@ fn judged_from<R: Read>(
         IsUnjudged document.now fcs octets fault)) }
 {
     let device = described(alloc, document)?;
-    let octets = octets_from(alloc, reader)?;
-    judged(alloc, document, &device, showing, fcs, octets.as_slice())
+    let mut octets = octets_from(alloc, reader)?;
+    judged(alloc, document, &device, showing, fcs, &mut octets)
 }
 
 /// Writes the report on the device that a document describes, by the capture that a reader gives: all of it, or nothing. Gives whether the

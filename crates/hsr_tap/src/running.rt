@@ -76,30 +76,40 @@ fn capture_of<'a>(
     alloc: Global,
     device: Option<&Device>,
     fcs: u8,
-    octets: &'a [u8],
+    octets: &'a mut Vec<u8>,
 ) -> Result<Capture<'a>, Fault>
-    ensures found { IfOk result (λ capture. capture_of fcs octets.now ≡ Ok capture) }
-    ensures fault { IfErr result (λ fault. Describes (option_map (λ d. d.now) device.entry) (λ document. IsUntold document fcs octets.now fault)) }
+    ensures found { IfOk result (λ capture. capture_of fcs octets.old.items ≡ Ok capture) }
+    ensures fault { IfErr result (λ fault. Describes (option_map (λ d. d.now) device.entry) (λ document. IsUntold document fcs octets.old.items fault)) }
 {
     Ok(Capture::read(alloc, fcs, octets)?)
 }
 
 /// The lines of the capture that octets are, for a device, if there is one.
 #[tactic(auto, using(crate::proofs::Told::is_told, crate::proofs::Untold::no_lines))]
-fn lines_in(alloc: Global, device: Option<&Device>, fcs: u8, octets: &[u8]) -> Result<Lines, Fault>
-    ensures told { IfOk result (λ lines. Describes (option_map (λ d. d.now) device.entry) (λ document. IsTold document fcs octets.now (Ok lines))) }
-    ensures untold { IfErr result (λ fault. Describes (option_map (λ d. d.now) device.entry) (λ document. IsUntold document fcs octets.now fault)) }
+fn lines_in(
+    alloc: Global,
+    device: Option<&Device>,
+    fcs: u8,
+    octets: &mut Vec<u8>,
+) -> Result<Lines, Fault>
+    ensures told { IfOk result (λ lines. Describes (option_map (λ d. d.now) device.entry) (λ document. IsTold document fcs octets.old.items (Ok lines))) }
+    ensures untold { IfErr result (λ fault. Describes (option_map (λ d. d.now) device.entry) (λ document. IsUntold document fcs octets.old.items fault)) }
 {
     let capture = capture_of(alloc, device, fcs, octets)?;
     Ok(lines_of_capture(alloc, device, capture)?)
 }
 
 /// The lines of the capture that octets are, for the device that a document describes, if there is one.
-fn told(alloc: Global, document: Option<&str>, fcs: u8, octets: &[u8]) -> Result<Lines, Fault>
+fn told(
+    alloc: Global,
+    document: Option<&str>,
+    fcs: u8,
+    octets: &mut Vec<u8>,
+) -> Result<Lines, Fault>
     ensures told { IfOk result (λ lines.
-        IsTold (option_map (λ s. s.now) document.entry) fcs octets.now (Ok lines)) }
+        IsTold (option_map (λ s. s.now) document.entry) fcs octets.old.items (Ok lines)) }
     ensures untold { IfErr result (λ fault.
-        IsUntold (option_map (λ s. s.now) document.entry) fcs octets.now fault) }
+        IsUntold (option_map (λ s. s.now) document.entry) fcs octets.old.items fault) }
 {
     let device = given_by(alloc, document)?;
     lines_in(alloc, device.as_ref(), fcs, octets)
@@ -127,8 +137,8 @@ fn told_from<R: Read>(
     ensures untold { IfErr result (λ fault. IfSome (R.remaining reader.old) (λ octets.
         IsUntold (option_map (λ s. s.now) document.entry) fcs octets fault)) }
 {
-    let octets = octets_from(alloc, reader)?;
-    told(alloc, document, fcs, octets.as_slice())
+    let mut octets = octets_from(alloc, reader)?;
+    told(alloc, document, fcs, &mut octets)
 }
 
 /// Writes octets, and has them leave.

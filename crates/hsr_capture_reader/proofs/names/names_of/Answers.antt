@@ -1,4 +1,4 @@
-use Rattle.std.proofs.Common.{◌≡◌, ◌+◌, ◌++◌, ◌∷◌, ◌∙◌, [], ap, arith, length, length-append, sym, take}
+use Rattle.std.proofs.Common.{◌≡◌, ◌++◌, ◌∷◌, ◌∙◌, [], ap, arith, length, length-append, sym, take}
 use Rattle.std.proofs.lemmas.List.{take_more}
 use Rattle.hsr_capture_reader.specs.Names.{interface_by, interfaces_by}
 use Rattle.hsr_capture_reader.proofs.Naming.{len_more, len_of, one_more}

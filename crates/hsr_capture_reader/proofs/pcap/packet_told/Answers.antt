@@ -1,4 +1,4 @@
-use Rattle.std.proofs.Common.{◌≡◌, ◌+◌, ◌≤◌, IfSome, arith, length, subst, sym}
+use Rattle.std.proofs.Common.{◌+◌, ◌≤◌, IfSome, arith, length, subst, sym}
 use Rattle.hsr_capture_reader.specs.Rooms.{StandAt}
 use Rattle.hsr_capture_reader.proofs.Places.{packet_stands}
 use Rattle.hsr_capture_reader.proofs.pcap.packet_told.Goals as goal
