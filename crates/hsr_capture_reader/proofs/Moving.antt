@@ -2,11 +2,11 @@
 use Rattle.std.proofs.Common.{◌≡◌, ℕ, zero, suc, ◌+◌, ◌-◌, ◌<◌, ◌≤◌, Bool, true, false, ◌&&◌, List, [], ◌∷◌, ◌++◌, length, take, drop, get_or, refl, sym, ap, subst, ◌∙◌, arith, le_refl, leb-true, le-leb}
 use Rattle.std.specs.List.{copy_within}
 use Rattle.std.specs.Prelude.{slice_set}
-use Rattle.std.proofs.lemmas.List.{drop-drop, drop-take, drop_at, length-drop, length-take-le, take-take, take_at}
+use Rattle.std.proofs.lemmas.List.{drop-drop, drop-take, drop_at, drop-set-lt, drop_more, length-drop, length-take-le, take-take, take_at}
 use Rattle.std.proofs.Math.Seq.{paste}
 use Rattle.std.proofs.lemmas.List.Edits.{drop-paste, take-paste}
 use Rattle.hsr_capture_reader.specs.declared.rooms.Room.{Room}
-use Rattle.hsr_capture_reader.specs.Packing.{IsHalfMoved, are_apart}
+use Rattle.hsr_capture_reader.specs.Packing.{IsHalfMoved, are_apart, octets_of}
 use Rattle.hsr_capture_reader.specs.Rooms.{packet_by, packets_by}
 
 -- ---- what a copy changes
@@ -138,6 +138,15 @@ one_moved to i old new rooms room moved end there half is end_is new_is moved_is
     (subst (λ r. take r.kept (drop to new) ≡ take r.kept (drop r.at old)) is here)
     (subst (λ r. drop (to + r.kept) new ≡ drop (to + r.kept) old) is behind)
 
+-- where it ends
+pub one_ends : (to i : ℕ) (rooms : List Room) (room moved : Room) → i < length rooms → room ≡ get_or rooms i room
+    → to + room.kept + octets_of (drop (i + 1) (slice_set rooms i moved)) ≡ to + octets_of (drop i rooms)
+one_ends to i rooms room moved there is =
+    let rest : drop (i + 1) (slice_set rooms i moved) ≡ drop (i + 1) rooms = drop-set-lt (i + 1) rooms i moved (omega arith) in
+    let here : octets_of (drop i rooms) ≡ room.kept + octets_of (drop (i + 1) rooms)
+    = ap octets_of (drop_more rooms i room there) ∙ ap (λ r. r.kept + octets_of (drop (i + 1) rooms)) (sym is) in
+    rw (rest, here) (omega arith)
+
 -- ---- all were moved
 
 pub front_same : (len to before : ℕ) (file : List ℕ) (rooms : List Room) → IsHalfMoved len to (length rooms) rooms → packets_by (take to file) before rooms ≡ packets_by file before rooms
@@ -146,3 +155,7 @@ front_same len to before file (room ∷ rooms) half =
     let head : take room.kept (drop room.at (take to file)) ≡ take room.kept (drop room.at file)
     = cut_same room.at room.kept to file (take to file) half.0 (take-take to to file (le_refl to)) in
     rw head (ap (λ ps. packet_by file before room ∷ ps) (front_same len to (suc before) file rooms half.1))
+
+pub all_are_within : (len to : ℕ) (rooms : List Room) → IsHalfMoved len to (length rooms) rooms → to ≤ len
+all_are_within len to [] half = leb-true to len half
+all_are_within len to (room ∷ rooms) half = all_are_within len to rooms half.1

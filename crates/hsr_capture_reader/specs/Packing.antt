@@ -12,3 +12,8 @@ abbrev pub IsHalfMoved : ℕ → ℕ → ℕ → List Room → Type 0
 IsHalfMoved len to zero rooms = are_apart len to rooms ≡ true
 IsHalfMoved len to (suc moved) [] = to ≤ len
 IsHalfMoved len to (suc moved) (room ∷ rooms) = (room.at + room.kept ≤ to) × IsHalfMoved len to moved rooms
+
+-- how many octets the packets have together
+abbrev pub octets_of : List Room → ℕ
+octets_of [] = 0
+octets_of (room ∷ rooms) = room.kept + octets_of rooms

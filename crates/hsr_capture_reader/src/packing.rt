@@ -1,6 +1,6 @@
 //! The octets of the packets, moved to the front of their file.
-ghost use Rattle.std.specs.Prelude.{◌≡◌, ◌+◌, ◌<◌, length, true};
-ghost use Rattle.hsr_capture_reader.specs.Packing.{IsHalfMoved, are_apart};
+ghost use Rattle.std.specs.Prelude.{◌≡◌, ◌+◌, ◌<◌, drop, length, true};
+ghost use Rattle.hsr_capture_reader.specs.Packing.{IsHalfMoved, are_apart, octets_of};
 ghost use Rattle.hsr_capture_reader.specs.Rooms.{packets_by};
 
 use crate::rooms::Room;
@@ -47,6 +47,7 @@ fn move_one(octets: &mut Vec<u8>, rooms: &mut Vec<Room>, i: usize, to: usize) ->
     requires half { IsHalfMoved (length octets.old.items) to i rooms.old.items }
     ensures packets { packets_by octets.new.items 0 rooms.new.items ≡ packets_by octets.old.items 0 rooms.old.items }
     ensures half { IsHalfMoved (length octets.new.items) result (i + 1) rooms.new.items }
+    ensures end { result + octets_of (drop (i + 1) rooms.new.items) ≡ to + octets_of (drop i rooms.old.items) }
     ensures many { length rooms.new.items ≡ length rooms.old.items }
 {
     let room = rooms[i];
@@ -60,6 +61,7 @@ fn move_all(octets: &mut Vec<u8>, rooms: &mut Vec<Room>) -> usize
     requires { are_apart (length octets.old.items) 0 rooms.old.items ≡ true }
     ensures packets { packets_by octets.new.items 0 rooms.new.items ≡ packets_by octets.old.items 0 rooms.old.items }
     ensures moved { IsHalfMoved (length octets.new.items) result (length rooms.new.items) rooms.new.items }
+    ensures end { result ≡ octets_of rooms.old.items }
     ensures many { length rooms.new.items ≡ length rooms.old.items }
 {
     let mut to = 0;
@@ -69,12 +71,13 @@ fn move_all(octets: &mut Vec<u8>, rooms: &mut Vec<Room>) -> usize
     to
 }
 
-/// Lets go what a file has beside the octets of its packets. Where these don't stand apart and in their order, as no file has them, all is
-/// left as it is.
-#[tactic(auto, using(crate::proofs::Moving::front_same))]
+/// Lets go what a file has beside the octets of its packets, if these stand apart and in their order: that is tested here, and not proved
+/// of each file. Else all is left as it is.
+#[tactic(auto, using(crate::proofs::Moving::front_same, crate::proofs::Moving::all_are_within))]
 pub(crate) fn pack(octets: &mut Vec<u8>, rooms: &mut Vec<Room>)
     ensures packets { packets_by octets.new.items 0 rooms.new.items ≡ packets_by octets.old.items 0 rooms.old.items }
     ensures many { length rooms.new.items ≡ length rooms.old.items }
+    ensures short { are_apart (length octets.old.items) 0 rooms.old.items ≡ true → length octets.new.items ≡ octets_of rooms.old.items }
 {
     if are_apart(octets.len(), rooms.as_slice()) {
         let to = move_all(octets, rooms);
