@@ -1,13 +1,13 @@
 -- The octets of packets are moved down, one packet after the other: what the packets are stays.
-use Rattle.std.proofs.Common.{◌≡◌, ℕ, zero, suc, ◌+◌, ◌-◌, ◌<◌, ◌≤◌, Bool, true, false, ◌&&◌, List, [], ◌∷◌, ◌++◌, length, take, drop, get_or, refl, sym, ap, subst, ◌∙◌, arith, le_refl, leb-true, le-leb}
+use Rattle.std.proofs.Common.{◌≡◌, ℕ, zero, suc, ◌+◌, ◌-◌, ◌<◌, ◌≤◌, List, [], ◌∷◌, ◌++◌, length, take, drop, get_or, refl, sym, ap, subst, ◌∙◌, arith, le_refl}
 use Rattle.std.specs.List.{copy_within}
 use Rattle.std.specs.Prelude.{slice_set}
 use Rattle.std.proofs.lemmas.List.{drop-drop, drop-take, drop_at, drop-set-lt, drop_more, length-drop, length-take-le, take-take, take_at}
 use Rattle.std.proofs.Math.Seq.{paste}
 use Rattle.std.proofs.lemmas.List.Edits.{drop-paste, take-paste}
 use Rattle.hsr_capture_reader.specs.declared.rooms.Room.{Room}
-use Rattle.hsr_capture_reader.specs.Packing.{IsHalfMoved, are_apart, octets_of}
-use Rattle.hsr_capture_reader.specs.Rooms.{packet_by, packets_by}
+use Rattle.hsr_capture_reader.specs.Packing.{IsHalfMoved, octets_of}
+use Rattle.hsr_capture_reader.specs.Rooms.{AreApart, packet_by, packets_by}
 
 -- ---- what a copy changes
 
@@ -50,56 +50,42 @@ cut_same at kept to before after below same =
 
 -- ---- packets that stand apart
 
-both : (a b : Bool) → (a && b) ≡ true → (a ≡ true) × (b ≡ true)
-both true b h = (refl, h)
-both false b h = absurd cc
+earlier : (len to from : ℕ) (rooms : List Room) → to ≤ from → AreApart len from rooms → AreApart len to rooms
+earlier len to from [] below apart = omega (arith, below, apart)
+earlier len to from (room ∷ rooms) below apart = (omega (arith, below, apart.0), apart.1)
 
-begins : (len from : ℕ) (room : Room) (rooms : List Room) → are_apart len from (room ∷ rooms) ≡ true → from ≤ room.at
-begins len from room rooms apart = leb-true from room.at (both _ _ apart).0
-
-goes_on : (len from : ℕ) (room : Room) (rooms : List Room) → are_apart len from (room ∷ rooms) ≡ true → are_apart len (room.at + room.kept) rooms ≡ true
-goes_on len from room rooms apart = (both _ _ apart).1
-
-both_are : (a b : Bool) → a ≡ true → b ≡ true → (a && b) ≡ true
-both_are a b is are = rw (is, are) refl
-
-earlier : (len to from : ℕ) (rooms : List Room) → to ≤ from → are_apart len from rooms ≡ true → are_apart len to rooms ≡ true
-earlier len to from [] below apart = le-leb to len (omega (arith, below, leb-true from len apart))
-earlier len to from (room ∷ rooms) below apart =
-    both_are _ _ (le-leb to room.at (omega (arith, below, begins len from room rooms apart))) (goes_on len from room rooms apart)
-
-within : (len from : ℕ) (rooms : List Room) → are_apart len from rooms ≡ true → from ≤ len
-within len from [] apart = leb-true from len apart
-within len from (room ∷ rooms) apart = omega (arith, begins len from room rooms apart, within len (room.at + room.kept) rooms (goes_on len from room rooms apart))
+within : (len from : ℕ) (rooms : List Room) → AreApart len from rooms → from ≤ len
+within len from [] apart = apart
+within len from (room ∷ rooms) apart = omega (arith, apart.0, within len (room.at + room.kept) rooms apart.1)
 
 -- their octets stand where nothing changed
-untouched : (len from before : ℕ) (old new : List ℕ) (rooms : List Room) → drop from new ≡ drop from old → are_apart len from rooms ≡ true → packets_by new before rooms ≡ packets_by old before rooms
+untouched : (len from before : ℕ) (old new : List ℕ) (rooms : List Room) → drop from new ≡ drop from old → AreApart len from rooms → packets_by new before rooms ≡ packets_by old before rooms
 untouched len from before old new [] same apart = refl
 untouched len from before old new (room ∷ rooms) same apart =
-    let from_at = begins len from room rooms apart in
+    let from_at = apart.0 in
     let head : drop room.at new ≡ drop room.at old = drop_further from room.at old new from_at same in
     let rest : packets_by new (suc before) rooms ≡ packets_by old (suc before) rooms
-    = untouched len (room.at + room.kept) (suc before) old new rooms (drop_further from (room.at + room.kept) old new (omega (arith, from_at)) same) (goes_on len from room rooms apart) in
+    = untouched len (room.at + room.kept) (suc before) old new rooms (drop_further from (room.at + room.kept) old new (omega (arith, from_at)) same) apart.1 in
     rw (head, rest) refl
 
 -- ---- one packet is moved
 
 pub half_is_down : (len to i : ℕ) (rooms : List Room) (d : Room) → i < length rooms → IsHalfMoved len to i rooms → to ≤ (get_or rooms i d).at
 half_is_down len to i [] d there half = absurd (omega (arith, there))
-half_is_down len to zero (room ∷ rooms) d there half = begins len to room rooms half
+half_is_down len to zero (room ∷ rooms) d there half = half.0
 half_is_down len to (suc i) (room ∷ rooms) d there half = half_is_down len to i rooms d (omega (arith, there)) half.1
 
 pub half_is_within : (len to i : ℕ) (rooms : List Room) (d : Room) → i < length rooms → IsHalfMoved len to i rooms → (get_or rooms i d).at + (get_or rooms i d).kept ≤ len
 half_is_within len to i [] d there half = absurd (omega (arith, there))
-half_is_within len to zero (room ∷ rooms) d there half = within len (room.at + room.kept) rooms (goes_on len to room rooms half)
+half_is_within len to zero (room ∷ rooms) d there half = within len (room.at + room.kept) rooms half.1
 half_is_within len to (suc i) (room ∷ rooms) d there half = half_is_within len to i rooms d (omega (arith, there)) half.1
 
 pub half_goes_on : (len to i : ℕ) (rooms : List Room) (d : Room) → i < length rooms → IsHalfMoved len to i rooms
     → IsHalfMoved len (to + (get_or rooms i d).kept) (i + 1) (slice_set rooms i (record (get_or rooms i d) { at = to }))
 half_goes_on len to i [] d there half = absurd (omega (arith, there))
 half_goes_on len to zero (room ∷ rooms) d there half =
-    let down = begins len to room rooms half in
-    (le_refl _, earlier len (to + room.kept) (room.at + room.kept) rooms (omega (arith, down)) (goes_on len to room rooms half))
+    let down = half.0 in
+    (le_refl _, earlier len (to + room.kept) (room.at + room.kept) rooms (omega (arith, down)) half.1)
 half_goes_on len to (suc i) (room ∷ rooms) d there half =
     let e : suc i + 1 ≡ suc (i + 1) = omega arith in
     let below = half.0 in
@@ -112,9 +98,9 @@ moved_same : (len to i before : ℕ) (old new : List ℕ) (rooms : List Room) (d
     → packets_by new before (slice_set rooms i (record (get_or rooms i d) { at = to })) ≡ packets_by old before rooms
 moved_same len to i before old new [] d there half below here behind = absurd (omega (arith, there))
 moved_same len to zero before old new (room ∷ rooms) d there half below here behind =
-    let down = begins len to room rooms half in
+    let down = half.0 in
     let rest : packets_by new (suc before) rooms ≡ packets_by old (suc before) rooms
-    = untouched len (to + room.kept) (suc before) old new rooms behind (earlier len (to + room.kept) (room.at + room.kept) rooms (omega (arith, down)) (goes_on len to room rooms half)) in
+    = untouched len (to + room.kept) (suc before) old new rooms behind (earlier len (to + room.kept) (room.at + room.kept) rooms (omega (arith, down)) half.1) in
     rw (here, rest) refl
 moved_same len to (suc i) before old new (room ∷ rooms) d there half below here behind =
     let head : take room.kept (drop room.at new) ≡ take room.kept (drop room.at old) = cut_same room.at room.kept to old new half.0 below in
@@ -157,5 +143,5 @@ front_same len to before file (room ∷ rooms) half =
     rw head (ap (λ ps. packet_by file before room ∷ ps) (front_same len to (suc before) file rooms half.1))
 
 pub all_are_within : (len to : ℕ) (rooms : List Room) → IsHalfMoved len to (length rooms) rooms → to ≤ len
-all_are_within len to [] half = leb-true to len half
+all_are_within len to [] half = half
 all_are_within len to (room ∷ rooms) half = all_are_within len to rooms half.1

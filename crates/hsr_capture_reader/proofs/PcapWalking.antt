@@ -24,7 +24,7 @@ first_packet : (offset fcs : ℕ) (format : Format) (r : ReadingFields) (x : ℕ
 first_packet offset fcs format r x xs = refl
 
 -- how many octets were captured is what the header says
-kept_is : (format : Format) (xs : List ℕ) (kept : ℕ) → kept_at format.order xs ≡ Ok (Some kept) → number32 format.order xs 8 ≡ kept
+pub kept_is : (format : Format) (xs : List ℕ) (kept : ℕ) → kept_at format.order xs ≡ Ok (Some kept) → number32 format.order xs 8 ≡ kept
 unfolding kept_at
 kept_is format xs kept is = grind arith
 

@@ -5,7 +5,7 @@ use Rattle.std.proofs.lemmas.List.{drop-drop, drop-take, length-drop, length-tak
 use Rattle.hsr_capture_reader.specs.declared.blocks.Start.{Start}
 use Rattle.hsr_capture_reader.specs.declared.rooms.Room.{Room}
 use Rattle.hsr_capture_reader.specs.Fields.{PacketFields}
-use Rattle.hsr_capture_reader.specs.Rooms.{StandAt, packet_by, packets_by}
+use Rattle.hsr_capture_reader.specs.Rooms.{AreApart, StandAt, end_from, packet_by, packets_by}
 
 -- ---- rooms, one behind the other
 
@@ -23,6 +23,15 @@ last_of_all file rooms room = let e : 0 + length rooms ≡ length rooms = omega 
 pub many_rooms : (file : List ℕ) (before : ℕ) (rooms : List Room) → length (packets_by file before rooms) ≡ length rooms
 many_rooms file before [] = refl
 many_rooms file before (room ∷ rooms) = ap suc (many_rooms file (suc before) rooms)
+
+-- the last packet stands behind the others
+pub apart_more : (len from : ℕ) (rooms : List Room) (room : Room) → AreApart len from rooms → end_from from rooms ≤ room.at → room.at + room.kept ≤ len → AreApart len from (rooms ++ room ∷ [])
+apart_more len from [] room apart behind within = (behind, within)
+apart_more len from (first ∷ rooms) room apart behind within = (apart.0, apart_more len (first.at + first.kept) rooms room apart.1 behind within)
+
+pub end_more : (from : ℕ) (rooms : List Room) (room : Room) → end_from from (rooms ++ room ∷ []) ≡ room.at + room.kept
+end_more from [] room = refl
+end_more from (first ∷ rooms) room = end_more (first.at + first.kept) rooms room
 
 -- a room goes, and its packet comes
 pub one_back : (file : List ℕ) (whole left : List Room) (room : Room) (made more all : List PacketFields) → whole ≡ left ++ room ∷ [] → more ≡ made ++ packet_by file (length left) room ∷ []
@@ -75,3 +84,7 @@ packet_stands file left offset n k is some within =
     let long : length left ≡ length file - offset = ap length is ∙ length-drop offset file in
     let all : left ≡ take (length left) (drop offset file) = sym (take_all (length left) left (le_refl _)) ∙ ap (take (length left)) is in
     stand_behind file offset left n k (omega (arith, long), all) within
+
+-- a part is no longer than what it stands in
+pub part_fits : (octets : List ℕ) (n k : ℕ) → n ≤ length octets → n + length (take k (drop n octets)) ≤ length octets
+part_fits octets n k within = omega (arith, length-take k (drop n octets), length-drop n octets)

@@ -1,5 +1,5 @@
 //! Where the blocks of a pcapng file stand (draft-ietf-opsawg-pcapng, section 3.1).
-ghost use Rattle.std.specs.Prelude.{◌≡◌, ◌≤◌, length, IfOk, IfSome};
+ghost use Rattle.std.specs.Prelude.{◌≡◌, ◌+◌, ◌≤◌, length, IfOk, IfSome};
 ghost use Rattle.hsr_capture_reader.specs.Blocks.{block_of, is_section, order_at, section_order, start_of};
 
 use crate::fault::CaptureFault;
@@ -101,7 +101,8 @@ pub(crate) fn start_of(before: ByteOrder, octets: &[u8]) -> Result<Option<Start>
 pub(crate) fn block_of(offset: usize, start: Start, octets: &[u8]) -> Block<'_>
     requires shortest { 12 ≤ start.len }
     requires room { start.len ≤ length octets.now }
-    ensures { result ≡ block_of offset start octets.now }
+    ensures value { result ≡ block_of offset start octets.now }
+    ensures long { length result.body + 12 ≡ start.len }
 {
     Block {
         offset,

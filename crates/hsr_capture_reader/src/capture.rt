@@ -2,7 +2,7 @@
 ghost use Rattle.std.specs.Prelude.{◌≡◌, ◌≤◌, length, Ok, IfOk};
 ghost use Rattle.hsr_capture_reader.specs.Capture.{capture_in, capture_of, is_gzip, reading_of};
 ghost use Rattle.hsr_capture_reader.specs.Reading.{Gives};
-ghost use Rattle.hsr_capture_reader.specs.Rooms.{Reads};
+ghost use Rattle.hsr_capture_reader.specs.Rooms.{AreApart, Reads};
 ghost use Rattle.hsr_capture_reader.specs.Told.{Tells, capture_by};
 
 use crate::blocks::is_section;
@@ -77,6 +77,7 @@ fn reading_of<'a>(alloc: Global, fcs: u8, octets: &'a [u8]) -> Result<Reading<'a
 fn told_in(alloc: Global, reading: Reading<'_>) -> Result<Told, NoMemory>
     ensures value { IfOk result (λ told. capture_in reading.entry.read ≡ Ok (capture_by reading.entry.file told)) }
     ensures many { IfOk result (λ told. length told.rooms.items ≤ 1048576) }
+    ensures apart { IfOk result (λ told. AreApart (length reading.entry.file) 0 told.rooms.items) }
 {
     let Reading {
         file: _,
@@ -102,6 +103,7 @@ fn told_in(alloc: Global, reading: Reading<'_>) -> Result<Told, NoMemory>
 fn told_of(alloc: Global, fcs: u8, octets: &[u8]) -> Result<Told, ReadFault>
     ensures value { Tells octets.now result (capture_of fcs octets.now) }
     ensures many { IfOk result (λ told. length told.rooms.items ≤ 1048576) }
+    ensures apart { IfOk result (λ told. AreApart (length octets.now) 0 told.rooms.items) }
 {
     let reading = reading_of(alloc, fcs, octets)?;
     Ok(told_in(alloc, reading)?)
@@ -113,7 +115,8 @@ fn capture_by<'a>(
     octets: &'a mut Vec<u8>,
     told: Told,
 ) -> Result<Capture<'a>, NoMemory>
-    requires { length told.rooms.items ≤ 1048576 }
+    requires many { length told.rooms.items ≤ 1048576 }
+    requires apart { AreApart (length octets.old.items) 0 told.rooms.items }
     ensures { IfOk result (λ capture. capture ≡ capture_by octets.old.items told) }
 {
     let Told {

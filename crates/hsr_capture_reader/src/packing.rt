@@ -1,7 +1,7 @@
 //! The octets of the packets, moved to the front of their file.
-ghost use Rattle.std.specs.Prelude.{◌≡◌, ◌+◌, ◌<◌, drop, length, true};
-ghost use Rattle.hsr_capture_reader.specs.Packing.{IsHalfMoved, are_apart, octets_of};
-ghost use Rattle.hsr_capture_reader.specs.Rooms.{packets_by};
+ghost use Rattle.std.specs.Prelude.{◌≡◌, ◌+◌, ◌<◌, drop, length};
+ghost use Rattle.hsr_capture_reader.specs.Packing.{IsHalfMoved, octets_of};
+ghost use Rattle.hsr_capture_reader.specs.Rooms.{AreApart, packets_by};
 
 use crate::rooms::Room;
 
@@ -10,20 +10,6 @@ fn end_of(room: Room) -> usize
     ensures { result ≡ room.at + room.kept }
 {
     room.at as usize + room.kept as usize
-}
-
-/// Whether each packet stands behind the one before, all in so many octets.
-fn are_apart(len: usize, rooms: &[Room]) -> bool
-    ensures { result ≡ are_apart len 0 rooms.now }
-{
-    let mut from = 0;
-    for room in rooms {
-        if (room.at as usize) < from {
-            return false;
-        }
-        from = end_of(*room);
-    }
-    from <= len
 }
 
 /// The packet, whose octets stand elsewhere.
@@ -58,7 +44,7 @@ fn move_one(octets: &mut Vec<u8>, rooms: &mut Vec<Room>, i: usize, to: usize) ->
 
 /// Moves the octets of all packets; gives where they end.
 fn move_all(octets: &mut Vec<u8>, rooms: &mut Vec<Room>) -> usize
-    requires { are_apart (length octets.old.items) 0 rooms.old.items ≡ true }
+    requires { AreApart (length octets.old.items) 0 rooms.old.items }
     ensures packets { packets_by octets.new.items 0 rooms.new.items ≡ packets_by octets.old.items 0 rooms.old.items }
     ensures moved { IsHalfMoved (length octets.new.items) result (length rooms.new.items) rooms.new.items }
     ensures end { result ≡ octets_of rooms.old.items }
@@ -71,16 +57,14 @@ fn move_all(octets: &mut Vec<u8>, rooms: &mut Vec<Room>) -> usize
     to
 }
 
-/// Lets go what a file has beside the octets of its packets, if these stand apart and in their order: that is tested here, and not proved
-/// of each file. Else all is left as it is.
+/// Lets go what a file has beside the octets of its packets.
 #[tactic(auto, using(crate::proofs::Moving::front_same, crate::proofs::Moving::all_are_within))]
 pub(crate) fn pack(octets: &mut Vec<u8>, rooms: &mut Vec<Room>)
+    requires { AreApart (length octets.old.items) 0 rooms.old.items }
     ensures packets { packets_by octets.new.items 0 rooms.new.items ≡ packets_by octets.old.items 0 rooms.old.items }
     ensures many { length rooms.new.items ≡ length rooms.old.items }
-    ensures short { are_apart (length octets.old.items) 0 rooms.old.items ≡ true → length octets.new.items ≡ octets_of rooms.old.items }
+    ensures short { length octets.new.items ≡ octets_of rooms.old.items }
 {
-    if are_apart(octets.len(), rooms.as_slice()) {
-        let to = move_all(octets, rooms);
-        octets.truncate(to);
-    }
+    let to = move_all(octets, rooms);
+    octets.truncate(to);
 }

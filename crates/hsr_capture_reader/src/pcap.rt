@@ -125,6 +125,7 @@ fn captured_at<'a>(fcs: u8, format: Format, octets: &'a [u8]) -> Captured<'a>
     requires { 16 ≤ length octets.now }
     ensures value { result ≡ captured_at fcs format octets.now }
     ensures octets { result.octets ≡ take (number32 format.order octets.now 8) (drop 16 octets.now) }
+    ensures fits { length result.octets ≤ number32 format.order octets.now 8 }
     ensures interface { result.interface ≡ 0 }
 {
     let order = format.order;
@@ -155,6 +156,7 @@ fn packet_told<'a>(
 ) -> Result<(Reading<'a>, Option<usize>), ReadFault>
     requires some { 0 < length left.now }
     requires left { left.now ≡ drop offset reading.file }
+    requires behind { reading.reached ≤ offset }
     ensures goes_on { IfOk result (λ s. IfSome s.1 (λ n.
         packets_past 0 offset fcs format reading.entry.read left.now
         ≡ packets_past 0 (offset + n) fcs format s.0.read (drop n left.now))) }
@@ -164,6 +166,7 @@ fn packet_told<'a>(
     ensures fails { IfErr result (λ e.
         Fails e (packets_past 0 offset fcs format reading.entry.read left.now)) }
     ensures file { IfOk result (λ s. s.0.file ≡ reading.entry.file) }
+    ensures reached { IfOk result (λ s. IfSome s.1 (λ n. s.0.reached ≤ offset + n)) }
 {
     let mut reading = reading;
     let Some(kept) = kept_there(offset, format.order, left)? else {
@@ -178,7 +181,8 @@ fn packet_told<'a>(
 /// The packets of a file, which stand behind its header.
 #[tactic(auto, using(crate::proofs::PcapWalking::packets_are_over))]
 fn packets_in<'a>(reading: Reading<'a>, fcs: u8, format: Format) -> Result<Reading<'a>, ReadFault>
-    requires { 24 ≤ length reading.file }
+    requires header { 24 ≤ length reading.file }
+    requires nothing { reading.reached ≡ 0 }
     ensures value { Reads result (packets_past 0 24 fcs format reading.entry.read (drop 24 reading.entry.file)) }
     ensures file { IfOk result (λ next. next.file ≡ reading.entry.file) }
 {

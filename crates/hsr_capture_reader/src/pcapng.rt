@@ -27,6 +27,7 @@ const SIMPLE_HEAD: usize = 4;
 fn section_told<'a>(reading: Reading<'a>, block: &Block<'a>) -> Result<Reading<'a>, ReadFault>
     ensures value { Reads result (section_told reading.entry.read block.now) }
     ensures file { IfOk result (λ next. next.file ≡ reading.entry.file) }
+    ensures reached { IfOk result (λ next. next.reached ≡ reading.entry.reached) }
 {
     if block.body.len() < 16 {
         return Err(refused(block.offset, CaptureFault::Block));
@@ -87,6 +88,7 @@ fn interface_told<'a>(
 ) -> Result<Reading<'a>, ReadFault>
     ensures value { Reads result (interface_told fcs reading.entry.read block.now) }
     ensures file { IfOk result (λ next. next.file ≡ reading.entry.file) }
+    ensures reached { IfOk result (λ next. next.reached ≡ reading.entry.reached) }
 {
     if block.body.len() < 8 {
         return Err(refused(block.offset, CaptureFault::Block));
@@ -159,6 +161,7 @@ fn captured_in<'a>(block: &Block<'a>, number: usize, interface: &Interface<'_>) 
     requires { 20 ≤ length block.now.body }
     ensures value { result ≡ captured_in block.now number interface.now }
     ensures octets { result.octets ≡ take (kept_in block.now) (drop 20 block.now.body) }
+    ensures fits { 20 + length result.octets ≤ length block.now.body }
     ensures interface { result.interface ≡ number }
 {
     let flags = flags_in(block.order, options_in(block));
@@ -179,6 +182,7 @@ fn noted<'a>(reading: Reading<'a>, block: &Block<'a>, number: usize, moment: u64
     requires number { number < length reading.read.interfaces }
     ensures value { result.read ≡ noted reading.entry.read block.now number moment }
     ensures file { result.file ≡ reading.entry.file }
+    ensures reached { result.reached ≡ reading.entry.reached }
 {
     let mut reading = reading;
     reading.stamp = moment;
@@ -198,9 +202,12 @@ fn captured_told<'a>(
     requires body { 20 ≤ length block.now.body }
     requires number { number < length reading.read.interfaces }
     requires stands { StandAt reading.file (block.now.offset + 28) captured.octets }
+    requires fits { 20 + length captured.octets ≤ length block.now.body }
     requires interface { captured.interface < 64 }
+    requires behind { reading.reached ≤ block.now.offset + 8 }
     ensures value { Reads result (captured_told reading.entry.read block.now number captured.entry) }
     ensures file { IfOk result (λ next. next.file ≡ reading.entry.file) }
+    ensures reached { IfOk result (λ next. next.reached ≤ block.now.offset + 8 + length block.now.body) }
 {
     let reading = noted(reading, block, number, captured.moment);
     let at = block.offset + HEAD + STAMPED_HEAD;
@@ -218,6 +225,7 @@ fn captured_there<'a>(
     ensures value { result ≡ captured_there interfaces.now block.now number }
     ensures there { OnOk result (number < length interfaces.now) }
     ensures octets { IfOk result (λ captured. captured.octets ≡ take (kept_in block.now) (drop 20 block.now.body)) }
+    ensures fits { IfOk result (λ captured. 20 + length captured.octets ≤ length block.now.body) }
     ensures interface { IfOk result (λ captured. captured.interface ≡ number) }
 {
     let offset = block.offset;
@@ -245,8 +253,10 @@ fn stamped_told<'a>(
 ) -> Result<Reading<'a>, ReadFault>
     requires body { 20 ≤ length block.now.body }
     requires stands { StandAt reading.file (block.now.offset + 8) block.now.body }
+    requires behind { reading.reached ≤ block.now.offset + 8 }
     ensures value { Reads result (stamped_told reading.entry.read block.now number) }
     ensures file { IfOk result (λ next. next.file ≡ reading.entry.file) }
+    ensures reached { IfOk result (λ next. next.reached ≤ block.now.offset + 8 + length block.now.body) }
 {
     let number = reading.earlier + number as usize;
     let captured = captured_there(reading.interfaces.as_slice(), block, number)?;
@@ -257,8 +267,10 @@ fn stamped_told<'a>(
 #[tactic(auto, unfolding(crate::specs::Pcapng::enhanced_told))]
 fn enhanced_told<'a>(reading: Reading<'a>, block: &Block<'a>) -> Result<Reading<'a>, ReadFault>
     requires stands { StandAt reading.file (block.now.offset + 8) block.now.body }
+    requires behind { reading.reached ≤ block.now.offset + 8 }
     ensures value { Reads result (enhanced_told reading.entry.read block.now) }
     ensures file { IfOk result (λ next. next.file ≡ reading.entry.file) }
+    ensures reached { IfOk result (λ next. next.reached ≤ block.now.offset + 8 + length block.now.body) }
 {
     if block.body.len() < STAMPED_HEAD {
         return Err(refused(block.offset, CaptureFault::Block));
@@ -270,8 +282,10 @@ fn enhanced_told<'a>(reading: Reading<'a>, block: &Block<'a>) -> Result<Reading<
 #[tactic(auto, unfolding(crate::specs::Pcapng::obsolete_told))]
 fn obsolete_told<'a>(reading: Reading<'a>, block: &Block<'a>) -> Result<Reading<'a>, ReadFault>
     requires stands { StandAt reading.file (block.now.offset + 8) block.now.body }
+    requires behind { reading.reached ≤ block.now.offset + 8 }
     ensures value { Reads result (obsolete_told reading.entry.read block.now) }
     ensures file { IfOk result (λ next. next.file ≡ reading.entry.file) }
+    ensures reached { IfOk result (λ next. next.reached ≤ block.now.offset + 8 + length block.now.body) }
 {
     if block.body.len() < STAMPED_HEAD {
         return Err(refused(block.offset, CaptureFault::Block));
@@ -299,7 +313,8 @@ fn simple_in<'a>(
     interface: &Interface<'_>,
 ) -> Captured<'a>
     requires { 4 ≤ length block.now.body }
-    ensures { result ≡ simple_in earlier stamp block.now interface.now }
+    ensures value { result ≡ simple_in earlier stamp block.now interface.now }
+    ensures fits { 4 + length result.octets ≤ length block.now.body }
 {
     let wire = block.order.u32_at(block.body, 0);
     Captured {
@@ -316,8 +331,10 @@ fn simple_in<'a>(
 #[tactic(auto, using(crate::proofs::Places::captured_stands), unfolding(crate::specs::Pcapng::simple_told))]
 fn simple_told<'a>(reading: Reading<'a>, block: &Block<'a>) -> Result<Reading<'a>, ReadFault>
     requires stands { StandAt reading.file (block.now.offset + 8) block.now.body }
+    requires behind { reading.reached ≤ block.now.offset + 8 }
     ensures value { Reads result (simple_told reading.entry.read block.now) }
     ensures file { IfOk result (λ next. next.file ≡ reading.entry.file) }
+    ensures reached { IfOk result (λ next. next.reached ≤ block.now.offset + 8 + length block.now.body) }
 {
     if block.body.len() < 4 {
         return Err(refused(block.offset, CaptureFault::Block));
@@ -346,6 +363,7 @@ fn counted<'a>(reading: Reading<'a>, block: &Block<'a>, number: usize, clock: Cl
     requires { number < length reading.read.interfaces }
     ensures value { result.read ≡ counted reading.entry.read block.now number clock }
     ensures file { result.file ≡ reading.entry.file }
+    ensures reached { result.reached ≡ reading.entry.reached }
 {
     let mut reading = reading;
     let options = behind(block.body, 12);
@@ -376,6 +394,7 @@ fn sum_of(at: Option<u64>, behind: Option<u64>) -> Option<u64>
 fn statistics_told<'a>(reading: Reading<'a>, block: &Block<'a>) -> Result<Reading<'a>, ReadFault>
     ensures value { Reads result (statistics_told reading.entry.read block.now) }
     ensures file { IfOk result (λ next. next.file ≡ reading.entry.file) }
+    ensures reached { IfOk result (λ next. next.reached ≡ reading.entry.reached) }
 {
     if block.body.len() < 12 {
         return Err(refused(block.offset, CaptureFault::Block));
@@ -396,8 +415,10 @@ pub(crate) fn told<'a>(
     block: &Block<'a>,
 ) -> Result<Reading<'a>, ReadFault>
     requires stands { StandAt reading.file (block.now.offset + 8) block.now.body }
+    requires behind { reading.reached ≤ block.now.offset + 8 }
     ensures value { Reads result (told fcs reading.entry.read block.now) }
     ensures file { IfOk result (λ next. next.file ≡ reading.entry.file) }
+    ensures reached { IfOk result (λ next. next.reached ≤ block.now.offset + 8 + length block.now.body) }
 {
     match block.block_type {
         SECTION => section_told(reading, block),

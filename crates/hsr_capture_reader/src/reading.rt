@@ -1,5 +1,5 @@
 //! What was read so far.
-ghost use Rattle.std.specs.Prelude.{◌≡◌, ◌<◌, ◌≤◌, length, Ok, IfOk};
+ghost use Rattle.std.specs.Prelude.{◌≡◌, ◌+◌, ◌<◌, ◌≤◌, length, Ok, IfOk};
 ghost use Rattle.hsr_capture_reader.specs.declared.fault.ReadFault.TheVariants.{Refused};
 ghost use Rattle.hsr_capture_reader.specs.Pcapng.{pushed};
 ghost use Rattle.hsr_capture_reader.specs.Reading.{nothing_read, with_interface};
@@ -31,13 +31,13 @@ pub(crate) struct Reading<'a> {
 
 impl<'a> Model for Reading<'a> {
     ghost use Rattle.std.specs.Prelude.{◌≡◌, ◌≤◌, length};
-    ghost use Rattle.hsr_capture_reader.specs.Rooms.{Held, packets_by};
+    ghost use Rattle.hsr_capture_reader.specs.Rooms.{AreApart, Held, end_from, packets_by};
 
     ghost Value = { Held };
 
-    ghost view = { λ r. record { file = r.file.now; read = record { interfaces = r.interfaces.items; earlier = r.earlier; losses = r.losses.items; packets = packets_by r.file.now 0 r.rooms.items; stamp = r.stamp; end = r.end; is_short = r.is_short } } };
+    ghost view = { λ r. record { file = r.file.now; read = record { interfaces = r.interfaces.items; earlier = r.earlier; losses = r.losses.items; packets = packets_by r.file.now 0 r.rooms.items; stamp = r.stamp; end = r.end; is_short = r.is_short }; reached = end_from 0 r.rooms.items } };
 
-    ghost invariant = { λ r. (length r.losses.items ≡ length r.interfaces.items) × (r.earlier ≤ length r.interfaces.items) × (length r.interfaces.items ≤ 64) × (length r.rooms.items ≤ 1048576) × (length r.file.now ≤ 268435456) };
+    ghost invariant = { λ r. (length r.losses.items ≡ length r.interfaces.items) × (r.earlier ≤ length r.interfaces.items) × (length r.interfaces.items ≤ 64) × (length r.rooms.items ≤ 1048576) × (length r.file.now ≤ 268435456) × AreApart (length r.file.now) 0 r.rooms.items };
 }
 
 /// The most packets of a capture.
@@ -51,7 +51,7 @@ pub(crate) fn refused(offset: usize, fault: CaptureFault) -> ReadFault
 }
 
 /// With one more packet, whose block or header stands at an offset, and whose octets at a place of the file.
-#[tactic(auto, using(crate::proofs::Places::last_room, crate::proofs::Places::many_rooms), unfolding(crate::specs::Pcapng::pushed))]
+#[tactic(auto, using(crate::proofs::Places::last_room, crate::proofs::Places::many_rooms, crate::proofs::Places::apart_more, crate::proofs::Places::end_more), unfolding(crate::specs::Pcapng::pushed))]
 pub(crate) fn pushed<'a>(
     reading: Reading<'a>,
     offset: usize,
@@ -59,9 +59,11 @@ pub(crate) fn pushed<'a>(
     captured: &Captured<'a>,
 ) -> Result<Reading<'a>, ReadFault>
     requires stands { StandAt reading.file at captured.now.octets }
+    requires behind { reading.reached ≤ at }
     requires interface { captured.now.interface < 64 }
     ensures value { Reads result (pushed reading.entry.read offset captured.now) }
     ensures file { IfOk result (λ next. next.file ≡ reading.entry.file) }
+    ensures reached { IfOk result (λ next. next.reached ≤ at + length captured.now.octets) }
 {
     let mut reading = reading;
     if reading.rooms.len() >= MOST_PACKETS {
@@ -79,6 +81,7 @@ pub(crate) fn with_interface<'a>(
     requires { length reading.read.interfaces < 64 }
     ensures value { Reads result (Ok (with_interface reading.entry.read interface.entry)) }
     ensures file { IfOk result (λ next. next.file ≡ reading.entry.file) }
+    ensures reached { IfOk result (λ next. next.reached ≡ reading.entry.reached) }
 {
     let mut reading = reading;
     reading.losses.push(Losses::default())?;
@@ -91,6 +94,7 @@ pub(crate) fn nothing_read<'a>(alloc: Global, file: &'a [u8]) -> Reading<'a>
     requires { length file.now ≤ 268435456 }
     ensures value { result.read ≡ nothing_read }
     ensures file { result.file ≡ file.now }
+    ensures reached { result.reached ≡ 0 }
 {
     Reading {
         file,

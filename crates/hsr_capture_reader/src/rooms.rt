@@ -52,7 +52,9 @@ pub(crate) fn room_of(at: usize, captured: &Captured<'_>) -> Room
     requires place { at < 2 ^ 32 }
     requires octets { length captured.now.octets < 2 ^ 32 }
     requires interface { captured.now.interface < 64 }
-    ensures { (file : List ℕ) (packets : List PacketFields) → StandAt file at captured.now.octets → packet_by file (length packets) result ≡ packet_of packets captured.now }
+    ensures place { result.at ≡ at }
+    ensures kept { result.kept ≤ length captured.now.octets }
+    ensures packet { (file : List ℕ) (packets : List PacketFields) → StandAt file at captured.now.octets → packet_by file (length packets) result ≡ packet_of packets captured.now }
 {
     let captured_len = captured.octets.len() as u32;
     let length = captured

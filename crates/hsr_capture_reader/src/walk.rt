@@ -43,6 +43,7 @@ fn block_told<'a>(
 ) -> Result<(Reading<'a>, Option<Start>), ReadFault>
     requires some { 0 < length left.now }
     requires left { left.now ≡ drop offset reading.file }
+    requires behind { reading.reached ≤ offset }
     ensures goes_on { IfOk result (λ s. IfSome s.1 (λ start.
         read_blocks fcs reading.entry.read (blocks_past 0 offset before left.now)
         ≡ read_blocks fcs s.0.read
@@ -54,6 +55,7 @@ fn block_told<'a>(
     ensures fails { IfErr result (λ e.
         Fails e (read_blocks fcs reading.entry.read (blocks_past 0 offset before left.now))) }
     ensures file { IfOk result (λ s. s.0.file ≡ reading.entry.file) }
+    ensures reached { IfOk result (λ s. IfSome s.1 (λ start. s.0.reached ≤ offset + start.len)) }
 {
     let mut reading = reading;
     let Some(start) = start_at(offset, before, left)? else {
@@ -68,6 +70,7 @@ fn block_told<'a>(
 /// What the blocks of a file tell, the first of which stands at its front.
 #[tactic(auto, using(crate::proofs::Walking::is_over))]
 fn read_blocks<'a>(fcs: u8, reading: Reading<'a>) -> Result<Reading<'a>, ReadFault>
+    requires { reading.reached ≡ 0 }
     ensures value { Reads result (read_blocks fcs reading.entry.read (blocks_past 0 0 Little reading.entry.file)) }
     ensures file { IfOk result (λ next. next.file ≡ reading.entry.file) }
 {
