@@ -146,6 +146,19 @@ def far_edges():
             steps = [send("s0", **{"from": place}), {"do": "drain"}, {"do": "clock", "at": later}]
             steps += [{"do": "life", "node": "n1", "about": compare.mac(16)}, {"do": "drain"}]
             yield f"a station heard {later} us ago", {"unit": "us", **box(), "step": steps}, 512, None
+    told = {"do": "life", "node": "n1", "about": compare.mac(16)}
+    sent = [send("s0"), {"do": "drain"}]
+    cut, mend = {"do": "cut", "link": 2}, {"do": "mend", "link": 2}
+    for name, steps in (
+        ("last heard before its link was cut", [*sent, cut, *sent, mend, told]),
+        ("heard over a link that is cut since", [*sent, cut, told]),
+        ("not heard, as its link was cut", [cut, *sent, mend, told]),
+        ("not heard, as its link was cut meanwhile", [send("s0"), cut, mend, {"do": "drain"}, told]),
+        ("heard before another send of it ended", [*sent, send("s0"), told]),
+    ):
+        yield f"a station {name}", {**box(), "step": [*steps, {"do": "drain"}]}, 512, None
+    rows = [[{"do": "clock", "at": second * 1_000_000}, *sent] + [told, {"do": "drain"}] * (second % 4 == 0) for second in range(200)]
+    yield "a station told of for 200 s", {"unit": "us", **box(), "step": [step for row in rows for step in row]}, 512, None
     for about in (compare.mac(1), compare.mac(2)):
         for node in ("n0", "n1"):
             steps = [{"do": "life", "node": node, "about": about}, {"do": "drain"}]
