@@ -1,5 +1,5 @@
 //! Octets that are owned, alone or together with others.
-ghost use Rattle.std.specs.Prelude.{◌≡◌, ◌≤◌, length, vec_capacity, IfOk};
+ghost use Rattle.std.specs.Prelude.{◌≡◌, ◌≤◌, length, vec_capacity, IfOk, IfSome};
 ghost use Rattle.hsr_node.specs.Octets.{octets_in};
 
 use hsr_frame::NoMemory;
@@ -93,6 +93,17 @@ impl Octets {
     {
         let room = Vec::with_capacity(alloc, spelled.len())?;
         Octets::shared(spelled_bytes(room, spelled))
+    }
+
+    /// The room in which the octets stand, with them, if it is theirs alone: so that it can be used again.
+    pub fn into_room(self) -> Option<Vec<u8>>
+        ensures { IfSome result (λ room. room.items ≡ self) }
+    {
+        let Octets { room } = self;
+        match room {
+            Room::Own(bytes) => Some(bytes),
+            Room::Shared(_) => None,
+        }
     }
 
     /// The octets, in order.

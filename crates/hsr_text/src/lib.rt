@@ -26,6 +26,6 @@ pub use short_words::short_word;
 pub use time_unit::TimeUnit;
 pub use whole::{BUFFER_SIZE, InputFault, granted_reads, read_text};
 pub use words::{
-    WordFault, decimal, decode_hex, hex_octets, hex_pair, put_count, put_decimal, put_hex, put_mac,
-    split_at, word,
+    WordFault, decimal, decode_hex, hex_octets, hex_octets_in, hex_pair, put_count, put_decimal,
+    put_hex, put_mac, split_at, word,
 };

@@ -128,10 +128,10 @@ fn fill_octets(octets: &mut [u8], digits: &[u8])
     }
 }
 
-/// The octets that pairs of hexadecimal digits of either case spell; no digits spell none. `Bad` where these are no such pairs,
-/// `Memory` if allocation fails.
+/// The octets that pairs of hexadecimal digits of either case spell, in this room; what it held goes. No digits spell no octets. `Bad`
+/// where these are no such pairs, `Memory` if allocation fails.
 #[tactic(auto, using(crate::proofs::HexDigits::none_spelled))]
-pub fn decode_hex(alloc: Global, digits: &[u8]) -> Result<Vec<u8>, WordFault>
+fn decode_hex_in(room: Vec<u8>, digits: &[u8]) -> Result<Vec<u8>, WordFault>
     ensures { Gives (λ v. v.items) result (result_ok (decode_of digits.now)) }
 {
     if digits.len() % 2 != 0 {
@@ -140,11 +140,37 @@ pub fn decode_hex(alloc: Global, digits: &[u8]) -> Result<Vec<u8>, WordFault>
     if !are_digits(digits) {
         return Err(WordFault::Bad);
     }
-    let Ok(mut octets) = vec![in alloc; 0u8; digits.len() / 2] else {
+    let mut octets = room;
+    // What it held isn't cleared: each octet is written over.
+    let Ok(()) = octets.resize(digits.len() / 2, 0) else {
         return Err(WordFault::Memory);
     };
     fill_octets(octets.as_mut_slice(), digits);
     Ok(octets)
+}
+
+/// The octets that pairs of hexadecimal digits of either case spell; no digits spell none. `Bad` where these are no such pairs,
+/// `Memory` if allocation fails.
+pub fn decode_hex(alloc: Global, digits: &[u8]) -> Result<Vec<u8>, WordFault>
+    ensures { Gives (λ v. v.items) result (result_ok (decode_of digits.now)) }
+{
+    decode_hex_in(Vec::new(alloc), digits)
+}
+
+/// The octets that hexadecimal text of either case spells, in this room; what it held goes. A hyphen spells none. `Bad` where the word
+/// is neither, `Memory` if allocation fails.
+pub fn hex_octets_in(room: Vec<u8>, word: &[u8]) -> Result<Vec<u8>, WordFault>
+    ensures { Gives (λ v. v.items) result (hex_octets_of word.now) }
+{
+    match word {
+        [] => Err(WordFault::Bad),
+        [b'-'] => {
+            let mut octets = room;
+            octets.clear();
+            Ok(octets)
+        }
+        digits => decode_hex_in(room, digits),
+    }
 }
 
 /// The octets that hexadecimal text of either case spells; a hyphen spells none. `Bad` where the word is neither,
@@ -152,11 +178,7 @@ pub fn decode_hex(alloc: Global, digits: &[u8]) -> Result<Vec<u8>, WordFault>
 pub fn hex_octets(alloc: Global, word: &[u8]) -> Result<Vec<u8>, WordFault>
     ensures { Gives (λ v. v.items) result (hex_octets_of word.now) }
 {
-    match word {
-        [] => Err(WordFault::Bad),
-        [b'-'] => Ok(Vec::new(alloc)),
-        digits => decode_hex(alloc, digits),
-    }
+    hex_octets_in(Vec::new(alloc), word)
 }
 
 /// Puts a number in decimal digits last. `NoMemory` if allocation fails: then nothing changes.
