@@ -23,12 +23,19 @@ use std::io::{BufRead, BufReader, Read, Write};
 /// The most octets of a line, without its line feed.
 const LINE_LIMIT: usize = 4096;
 
-/// Room for a line, without its line feed, and for its answer, used again for each line.
+/// Room for the octets that a line spells, and for its answer, used again for each line.
+#[derive(Drop)]
+struct Answering {
+    octets: Vec<u8>,
+    text: Vec<u8>,
+}
+
+/// Room for a line, without its line feed, and for what its answer takes.
 #[derive(Drop)]
 struct Room {
     // Of a fixed size: a line of any length takes no more, and is refused.
     line: ArrayVec<u8, LINE_LIMIT>,
-    text: Vec<u8>,
+    answering: Answering,
 }
 
 /// Answers one line.
@@ -39,12 +46,13 @@ fn serve<W: Write, const C: usize>(
     number: u64,
     line: &[u8],
     writer: &mut W,
-    text: &mut Vec<u8>,
+    answering: &mut Answering,
 ) -> Result<(), Fault>
     ensures { Served C setting.now node.old node.new number line.now (W.contents writer.old)
         (W.contents writer.new) result }
 {
-    match answer_line(alloc, setting, node, line, text) {
+    let Answering { octets, text } = answering;
+    match answer_line(alloc, setting, node, line, octets, text) {
         // Formed whole before it is written, so that a failed allocation leaves no half answer.
         Ok(()) => match writer.write_all(text.as_slice()) {
             Ok(()) => Ok(()),
@@ -72,10 +80,18 @@ fn answer_front<W: Write, const C: usize>(
     ensures told { IfErr result (λ f. f ≢ ReadFailed) }
 {
     let line = &room.line;
-    let text = &mut room.text;
+    let answering = &mut room.answering;
     match front {
         Front::TooLong => Err(Fault::Line(number)),
-        Front::Line => match serve(alloc, setting, node, number, line.as_slice(), writer, text) {
+        Front::Line => match serve(
+            alloc,
+            setting,
+            node,
+            number,
+            line.as_slice(),
+            writer,
+            answering,
+        ) {
             Ok(()) => Ok(true),
             Err(fault) => Err(fault),
         },
@@ -84,7 +100,15 @@ fn answer_front<W: Write, const C: usize>(
             if line.is_empty() {
                 return Ok(false);
             }
-            match serve(alloc, setting, node, number, line.as_slice(), writer, text) {
+            match serve(
+                alloc,
+                setting,
+                node,
+                number,
+                line.as_slice(),
+                writer,
+                answering,
+            ) {
                 Ok(()) => Ok(false),
                 Err(fault) => Err(fault),
             }
@@ -146,7 +170,15 @@ fn turn<R: Read, W: Write, const C: usize>(
         None => gathered_turn(alloc, setting, node, number, reader, reads, writer, room),
         Some(line) => {
             let taken = line.len() + 1;
-            match serve(alloc, setting, node, number, line, writer, &mut room.text) {
+            match serve(
+                alloc,
+                setting,
+                node,
+                number,
+                line,
+                writer,
+                &mut room.answering,
+            ) {
                 Ok(()) => {
                     *reads -= taken as u64;
                     reader.consume(taken);
@@ -195,7 +227,7 @@ fn answer_lines<R: Read, W: Write, const C: usize>(
     loop {
         match turn(alloc, setting, node, number, reader, reads, writer, room) {
             Ok(true) => number += 1,
-            Ok(false) => return finish(node, writer, &mut room.text),
+            Ok(false) => return finish(node, writer, &mut room.answering.text),
             Err(fault) => return Err(fault),
         }
     }
@@ -221,7 +253,10 @@ fn run<R: Read, W: Write, const C: usize>(
     };
     let mut room = Room {
         line: ArrayVec::new(),
-        text: Vec::new(alloc),
+        answering: Answering {
+            octets: Vec::new(alloc),
+            text: Vec::new(alloc),
+        },
     };
     // The loop is lent both: a return of a function that owns a node drops each kind of node in a proof of its own.
     answer_lines(alloc, reader, writer, reads, setting, &mut node, &mut room)

@@ -8,6 +8,7 @@ use crate::request::{Request, Setting, read_request};
 use hsr_node::{Event, Node, Outcome, Place, StepFault};
 use hsr_text::WordFault;
 use std::alloc::Global;
+use std::mem;
 
 /// Makes a text the lines by which a node of this place answers an event with this outcome. What it held goes.
 fn tell_outcome(
@@ -58,21 +59,48 @@ fn answer_request<const C: usize>(
     }
 }
 
+/// The room that an event's octets have for themselves.
+fn room_of(event: Event) -> Option<Vec<u8>> {
+    match event {
+        Event::Send {
+            from: _,
+            dst: _,
+            vlan: _,
+            kind: _,
+            payload,
+        } => payload.into_room(),
+        Event::Arrive { port: _, carried } => carried.octets.into_room(),
+        _ => None,
+    }
+}
+
+/// Puts the room that an event's octets have for themselves back, if they have such.
+fn put_back(room: &mut Vec<u8>, event: Event) {
+    if let Some(own) = room_of(event) {
+        *room = own;
+    }
+}
+
 /// Answers a line, without its line feed, by a node of this kind: makes a text the lines that answer it.
-/// What the text held goes. `Bad` exactly where the line is bad, or is none of this kind of node (RULES, Lines of `node`). `Memory`
+/// What the text held goes, and the room for the line's octets is used anew: the same for each line, it mostly takes no new memory. `Bad` exactly where the line is bad, or is none of this kind of node (RULES, Lines of `node`). `Memory`
 /// if allocation fails: the node may have done what the line asks for, and the text has a front of the answer at most.
 pub fn answer_line<const C: usize>(
     alloc: Global,
     setting: &Setting,
     node: &mut Node<C>,
     line: &[u8],
+    room: &mut Vec<u8>,
     text: &mut Vec<u8>,
 ) -> Result<(), WordFault>
     ensures { Gives (λ _. (text.new.items, node.new)) result
         (answer_of C setting.now node.old line.now) }
 {
-    match read_request(alloc, setting, line) {
-        Ok(request) => answer_request(&setting.place, node, &request, text),
+    match read_request(mem::replace(room, Vec::new(alloc)), setting, line) {
+        Ok(request) => {
+            let answered = answer_request(&setting.place, node, &request, text);
+            put_back(room, request.event);
+            answered
+        }
         Err(fault) => Err(fault),
     }
 }

@@ -5,8 +5,7 @@ ghost use Rattle.hsr_node_text.specs.Request.{about_of, age_in, arrival_in, last
 
 use hsr_frame::{About, Mac};
 use hsr_node::{Carried, Event, Octets, Place};
-use hsr_text::{TimeUnit, WordFault, hex_octets, hex_pair, short_word, word};
-use std::alloc::Global;
+use hsr_text::{TimeUnit, WordFault, hex_octets_in, hex_pair, short_word, word};
 
 /// Whom lines are for, and how they tell moments.
 #[derive(Drop)]
@@ -68,8 +67,8 @@ fn port_in(place: &Place, word: &[u8]) -> Option<u8>
     }
 }
 
-/// Reads `<at> <dst> <type4> <payload> [<vlan4>]`.
-fn read_send(alloc: Global, unit: TimeUnit, rest: Option<&[u8]>) -> Result<Request, WordFault>
+/// Reads `<at> <dst> <type4> <payload> [<vlan4>]`. The payload takes this room.
+fn read_send(room: Vec<u8>, unit: TimeUnit, rest: Option<&[u8]>) -> Result<Request, WordFault>
     ensures { Gives (λ r. r) result (send_in unit (option_map (λ s. s.now) rest.entry)) }
 {
     let (digits, rest) = short_word(rest).ok_or(WordFault::Bad)?;
@@ -79,7 +78,7 @@ fn read_send(alloc: Global, unit: TimeUnit, rest: Option<&[u8]>) -> Result<Reque
     let (digits, rest) = short_word(rest).ok_or(WordFault::Bad)?;
     let ethertype = hex_pair(digits).ok_or(WordFault::Bad)?;
     let (digits, rest) = word(rest).ok_or(WordFault::Bad)?;
-    let payload = Octets::new(hex_octets(alloc, digits)?);
+    let payload = Octets::new(hex_octets_in(room, digits)?);
     let vlan = read_vlan(rest)?;
     let event = Event::Send {
         // `from` chooses among a Station's addresses; all other nodes have one at most.
@@ -103,9 +102,9 @@ fn read_life(unit: TimeUnit, rest: Option<&[u8]>) -> Result<Request, WordFault>
     Ok(Request { at, event })
 }
 
-/// Reads `<at> <port> <octets>`, with the letter of a port that the node has.
+/// Reads `<at> <port> <octets>`, with the letter of a port that the node has. The octets take this room.
 #[tactic(auto, using(crate::proofs::LastOctets::spelled_by_all))]
-fn read_arrival(alloc: Global, setting: &Setting, rest: Option<&[u8]>) -> Result<Request, WordFault>
+fn read_arrival(room: Vec<u8>, setting: &Setting, rest: Option<&[u8]>) -> Result<Request, WordFault>
     ensures { Gives (λ r. r) result (arrival_in setting.now (option_map (λ s. s.now) rest.entry)) }
 {
     let (digits, rest) = short_word(rest).ok_or(WordFault::Bad)?;
@@ -114,7 +113,7 @@ fn read_arrival(alloc: Global, setting: &Setting, rest: Option<&[u8]>) -> Result
     let port = port_in(&setting.place, letter).ok_or(WordFault::Bad)?;
     // No space is searched for: it is no digit, so with one behind the digits these octets spell nothing.
     let digits = rest.ok_or(WordFault::Bad)?;
-    let octets = Octets::new(hex_octets(alloc, digits)?);
+    let octets = Octets::new(hex_octets_in(room, digits)?);
     let carried = Carried {
         probe: None,
         octets,
@@ -133,19 +132,17 @@ fn read_age(unit: TimeUnit, rest: Option<&[u8]>) -> Result<Request, WordFault>
     Ok(Request { at, event })
 }
 
-/// Reads a line for a node of this kind, without its line feed.
-/// `Bad` where it is no line of `node` (RULES, Lines of `node`); `Memory` where room for its octets is refused. Whether
-/// such a node sends at all isn't asked.
+/// Reads a line by its first word.
 #[tactic(auto, unfolding(crate::specs::Request::request_of))]
-pub fn read_request(alloc: Global, setting: &Setting, line: &[u8]) -> Result<Request, WordFault>
+fn read_by_verb(room: Vec<u8>, setting: &Setting, line: &[u8]) -> Result<Request, WordFault>
     ensures { Gives (λ r. r) result (request_of setting.now line.now) }
 {
     let (verb, rest) = short_word(Some(line)).ok_or(WordFault::Bad)?;
     if verb == b"send".as_slice() {
-        return read_send(alloc, setting.unit, rest);
+        return read_send(room, setting.unit, rest);
     }
     if verb == b"arrive".as_slice() {
-        return read_arrival(alloc, setting, rest);
+        return read_arrival(room, setting, rest);
     }
     if verb == b"life".as_slice() {
         return read_life(setting.unit, rest);
@@ -154,4 +151,20 @@ pub fn read_request(alloc: Global, setting: &Setting, line: &[u8]) -> Result<Req
         return read_age(setting.unit, rest);
     }
     Err(WordFault::Bad)
+}
+
+/// Reads a line for a node of this kind, without its line feed. The octets of an arrival or a payload take this room.
+/// `Bad` where it is no line of `node` (RULES, Lines of `node`); `Memory` where room for its octets is refused. Whether
+/// such a node sends at all isn't asked.
+#[tactic(auto, unfolding(crate::specs::Request::request_of))]
+pub fn read_request(room: Vec<u8>, setting: &Setting, line: &[u8]) -> Result<Request, WordFault>
+    ensures { Gives (λ r. r) result (request_of setting.now line.now) }
+{
+    match line {
+        // Most lines are arrivals: their front is compared at once, and no end of a word looked for.
+        [b'a', b'r', b'r', b'i', b'v', b'e', b' ', rest @ ..] => {
+            read_arrival(room, setting, Some(rest))
+        }
+        _ => read_by_verb(room, setting, line),
+    }
 }
