@@ -5,7 +5,7 @@ use Rattle.std.specs.Prelude.{nat_eq, nat_lt, filter, option_map, slice_get, sli
 use Rattle.std.proofs.lemmas.Bool.{and_from, and_left, and_parts, and_right, both_ways, cases_eq, cases_lt, cases_order, cond-false, cond-true, eq-eqb, eqb-true, false_from_ne_true, lt-ltb, ne_eqb, or_left}
 use Rattle.std.proofs.lemmas.List.{length-reverse, length-set, length-take, length_push, take_all}
 use Rattle.std.proofs.lemmas.Option.{get_or_from_slice_get, same_Some, slice_get-get_or, slice_get_within}
-use Rattle.hsr_frame_groups.specs.Frames.{CaughtFields, first_copy, frame_time, past_of}
+use Rattle.hsr_frame_groups.specs.Frames.{CaughtFields, frame_time, past_of}
 use Rattle.hsr_recent_table.specs.declared.previous.Keyed.{Keyed}
 use Rattle.hsr_recent_table.specs.Previous.{AreInTime, IsPreviousOf}
 use Rattle.hsr_sightings.specs.Copies.{begins_there, begun_at, carried_before}
@@ -13,11 +13,11 @@ use Rattle.hsr_sightings.specs.Finding.{AreFound, IsPreviousSighting}
 use Rattle.hsr_sightings.specs.Frames.{copies_of, frame_of}
 use Rattle.hsr_sightings.specs.Read.{AreRead, AreSightings, HasPlaces, IsBegun, IsSameSighting, IsSighting, IsSightingOf, Rise, first_by}
 use Rattle.hsr_sightings.specs.Ring.{Ring, goes, is_at, is_in, point_of, way_of}
-use Rattle.hsr_sightings.specs.Seen.{begun, first_of, joined, key_by, sighting_keyed}
+use Rattle.hsr_sightings.specs.Seen.{IsSoonAfter, begun, first_of, joined, key_by, sighting_keyed}
 use Rattle.hsr_sightings.specs.Sightings.{first_seen, is_more, sighting}
 use Rattle.hsr_sightings.specs.Fields.{Sighting}
 use Rattle.hsr_sightings.proofs.Counting.{slice_get_end, slice_get_left}
-use Rattle.hsr_sightings.proofs.Indexes.{first_there, keys_from, keys_from_at, keys_from_long, keys_rise, none_there, past_more, past_same, same_first, same_frame, within_frame}
+use Rattle.hsr_sightings.proofs.Indexes.{keys_from, keys_from_at, keys_from_long, keys_rise, none_there, not_before, past_more, past_same, same_first, same_frame, within_frame}
 
 -- ---- the copies of a frame that pass a test
 
@@ -150,7 +150,6 @@ is_joined : (ring : Ring) (copies : List CaughtFields) (m i carried : ℕ) (b c 
 is_joined ring copies m i carried b c s here is same carried_is = record {
   first = is.first;
   at = is.at;
-  frame = is.frame;
   point = is.point;
   order = is.order;
   by_0 = ap (λ o. cond (nat_eq (way_of ring c) 0) (first_of o c.at) o) is.by_0 ∙ sym (first_more ring 0 c seen) ∙ ap (first_by ring 0) (sym grown);
@@ -180,7 +179,6 @@ is_still : (ring : Ring) (copies : List CaughtFields) (m i : ℕ) (b c : CaughtF
 is_still ring copies m i b c s here is other = record {
   first = is.first;
   at = is.at;
-  frame = is.frame;
   point = is.point;
   order = is.order;
   by_0 = is.by_0 ∙ ap (first_by ring 0) (sym still);
@@ -193,13 +191,11 @@ is_still ring copies m i b c s here is other = record {
         ∙ sighting_other ring (past_of copies i) c (frame_of (past_of copies m) b) (point_of ring b) (λ of_frame at_point. other (record { frame = sym of_frame; point = sym at_point }))
 
 -- a sighting that no copy is in yet
-is_begun : (ring : Ring) (copies : List CaughtFields) (i frame order : ℕ) (c : CaughtFields) → slice_get copies i ≡ Some c → slice_get copies frame ≡ Some (first_copy (past_of copies i) c)
-    → order ≡ length (begun_at ring (point_of ring c) (past_of copies i)) → seen_to ring copies (frame_of (past_of copies i) c) (point_of ring c) i ≡ []
-    → IsSighting ring copies (past_of copies i) i c (begun c i frame (point_of ring c) order)
-is_begun ring copies i frame order c here of_frame order_is none = record {
+is_begun : (ring : Ring) (copies : List CaughtFields) (i order : ℕ) (c : CaughtFields) → slice_get copies i ≡ Some c → order ≡ length (begun_at ring (point_of ring c) (past_of copies i)) → seen_to ring copies (frame_of (past_of copies i) c) (point_of ring c) i ≡ []
+    → IsSighting ring copies (past_of copies i) i c (begun c i (point_of ring c) order)
+is_begun ring copies i order c here order_is none = record {
   first = refl;
   at = refl;
-  frame = of_frame;
   point = refl;
   order = order_is;
   by_0 = ap (first_by ring 0) (sym none);
@@ -384,7 +380,7 @@ own_more ring copies i k c all new of_copy here long keeps of_c own j d below at
 pub begin_step : (ring : Ring) (copies : List CaughtFields) (firsts : List ℕ) (i carried : ℕ) (c : CaughtFields) (all : List Sighting) (of_copy begun_old begun_new : List ℕ) → AreRead copies firsts
     → slice_get copies i ≡ Some c → carried ≡ carried_before (past_of copies i) c → AreFound ring copies i all of_copy begun_old → IsPreviousSighting ring copies i None → point_of ring c < 64
     → begun_new ≡ set begun_old (point_of ring c) (min (slice_index begun_old (point_of ring c) + 1) (2 ^ 32 - 1))
-    → AreFound ring copies (i + 1) (all ++ joined ring c carried (begun c i (slice_index firsts i) (point_of ring c) (slice_index begun_old (point_of ring c))) ∷ []) (of_copy ++ length all ∷ []) begun_new
+    → AreFound ring copies (i + 1) (all ++ joined ring c carried (begun c i (point_of ring c) (slice_index begun_old (point_of ring c))) ∷ []) (of_copy ++ length all ∷ []) begun_new
 begin_step ring copies firsts i carried c all of_copy begun_old begun_new read here carried_is found none place begun_is = record {
   each = λ k s at_k. by_old k s (slice_get_push all own s k at_k);
   order = λ j k s t before at_j at_k. by_order j k s t before (slice_get_push all own s j at_j) (slice_get_push all own t k at_k) at_k;
@@ -399,7 +395,7 @@ begin_step ring copies firsts i carried c all of_copy begun_old begun_new read h
     inside = slice_get_within copies i c here
 
     own : Sighting
-    own = joined ring c carried (begun c i (slice_index firsts i) (point_of ring c) (slice_index begun_old (point_of ring c)))
+    own = joined ring c carried (begun c i (point_of ring c) (slice_index begun_old (point_of ring c)))
 
     empty : seen_to ring copies (frame_of (past_of copies i) c) (point_of ring c) i ≡ []
     empty = begins_here ring copies i c here none
@@ -411,8 +407,8 @@ begin_step ring copies firsts i carried c all of_copy begun_old begun_new read h
     order_is = found.counts (point_of ring c) _ (slice_get-get_or begun_old (point_of ring c) 0 (omega (arith, place, found.points)))
 
     is : IsSighting ring copies (past_of copies (i + 1)) i c own
-    is = is_joined ring copies i i carried c c (begun c i (slice_index firsts i) (point_of ring c) (slice_index begun_old (point_of ring c))) here
-        (is_begun ring copies i (slice_index firsts i) (slice_index begun_old (point_of ring c)) c here (first_there copies firsts read i c here) order_is empty)
+    is = is_joined ring copies i i carried c c (begun c i (point_of ring c) (slice_index begun_old (point_of ring c))) here
+        (is_begun ring copies i (slice_index begun_old (point_of ring c)) c here order_is empty)
         (record { frame = refl; point = refl }) carried_is
 
     of_own : IsSightingOf ring copies (all ++ own ∷ []) i c (length all)
@@ -509,6 +505,24 @@ join_step ring copies i k carried c all new of_copy begun_old here carried_is fo
                 other.0 (sym (same_number all n k s of_c.seen found.order other.1 of_c.numbered one)));
           },
         )
+
+-- it comes within the time of a frame after the first copy of its sighting
+pub soon_after : (ring : Ring) (copies : List CaughtFields) (firsts : List ℕ) (i k : ℕ) (c : CaughtFields) (all : List Sighting) (of_copy begun_old : List ℕ) → AreRead copies firsts
+    → slice_get copies i ≡ Some c → AreFound ring copies i all of_copy begun_old → IsSightingOf ring copies all i c k → (s : Sighting) → slice_get all k ≡ Some s → IsSoonAfter s c.at
+soon_after ring copies firsts i k c all of_copy begun_old read here found of_c s at_k =
+    let was = found.each k s at_k in
+    let own : s ≡ of_c.seen = same_Some _ _ (sym at_k ∙ of_c.numbered) in
+    let place : s.first ≡ of_c.seen.first = ap (λ (x : Sighting). x.first) own in
+    let same_copy : of_c.copy ≡ was.1.copy = same_Some _ _ (sym of_c.there ∙ ap (slice_get copies) (sym place) ∙ was.1.there) in
+    let frame : frame_of (past_of copies s.first) was.1.copy ≡ frame_of (past_of copies i) c
+    = ap (λ x. frame_of (past_of copies s.first) x) (sym same_copy) ∙ ap (λ m. frame_of (past_of copies m) of_c.copy) place ∙ of_c.same.frame in
+    let no_sooner : was.1.copy.at ≤ c.at = not_before copies firsts read s.first i was.1.copy c (omega (arith, was.0)) was.1.there here in
+    let near : c.at < was.1.copy.at + frame_time
+    = within_frame copies firsts read s.first i was.1.copy c was.0 was.1.there here (same_first copies firsts read s.first i was.1.copy c was.1.there here frame) in
+    record {
+      later = omega (arith, no_sooner, was.1.is.at);
+      soon = omega (arith, near, was.1.is.at);
+    }
 
 -- the sighting of an earlier copy is that of a copy of its frame at its point
 pub sighting_of_same : (ring : Ring) (copies : List CaughtFields) (all : List Sighting) (j i k : ℕ) (b c : CaughtFields) → IsSightingOf ring copies all j b k → IsSameSighting ring copies j i b c

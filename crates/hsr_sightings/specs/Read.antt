@@ -5,7 +5,7 @@
 --     AreSightings     each frame at each point that saw it, in the order of first copies
 --     IsMost           the most that is told of a copy at a point
 use Rattle.std.specs.Prelude.{ℕ, ◌≡◌, ◌+◌, ◌<◌, ◌^◌, true, if◌then◌else◌, List, [], ◌∷◌, ◌++◌, length, option_to_list, filter, reverse, slice_get, slice_index, Option, Some, None, option_map}
-use Rattle.hsr_frame_groups.specs.Frames.{AreFirst, AreInTime, CaughtFields, first_copy, past_of}
+use Rattle.hsr_frame_groups.specs.Frames.{AreFirst, AreInTime, CaughtFields, past_of}
 use Rattle.hsr_sightings.specs.Copies.{begins_there, begun_at, crowd, first_crowded, is_overtaken, most_of, needed, top_before}
 use Rattle.hsr_sightings.specs.Frames.{frame_of}
 use Rattle.hsr_sightings.specs.Ring.{Ring, goes, is_at, point_of}
@@ -63,7 +63,6 @@ first_by ring way seen = option_map (λ c. c.at) (first_seen (filter (goes ring 
 pub record IsSighting (ring : Ring) (copies seen : List CaughtFields) (i : ℕ) (c : CaughtFields) (s : Sighting) : Type 0 where
   pub first : s.first ≡ i
   pub at : s.at ≡ c.at
-  pub frame : slice_get copies s.frame ≡ Some (first_copy (past_of copies i) c)
   pub point : s.point ≡ point_of ring c
   pub order : s.order ≡ length (begun_at ring (point_of ring c) (past_of copies i))
   pub by_0 : s.by_0 ≡ first_by ring 0 (sighting ring seen (frame_of (past_of copies i) c) (point_of ring c))

@@ -1,5 +1,5 @@
 -- What is kept of a frame as a point saw it, and what follows from that.
-use Rattle.std.specs.Prelude.{ℕ, ◌+◌, ◌-◌, ◌*◌, ◌==◌, ◌&&◌, ◌||◌, not, nat_lt, Bool, false, if◌then◌else◌, Option, Some, None, is_some}
+use Rattle.std.specs.Prelude.{ℕ, ◌+◌, ◌-◌, ◌*◌, ◌≤◌, ◌<◌, ◌^◌, ◌==◌, ◌&&◌, ◌||◌, not, nat_lt, Bool, false, if◌then◌else◌, Option, Some, None, is_some}
 use Rattle.hsr_frame_groups.specs.Frames.{CaughtFields}
 use Rattle.hsr_recent_table.specs.declared.previous.Keyed.{Keyed}
 use Rattle.hsr_sightings.specs.Ring.{Ring, forget_time, point_of, way_of}
@@ -50,9 +50,14 @@ skew_of seen = apart seen.by_0 seen.by_1
     apart (Some a) (Some b) = Some ((a - b) + (b - a))
 
 -- a sighting that begins with a copy
-abbrev pub begun : CaughtFields → ℕ → ℕ → ℕ → ℕ → Sighting
-begun c i frame point order = record { first = i; at = c.at; frame = frame; point = point; order = order; by_0 = None; by_1 = None; is_more = false }
+abbrev pub begun : CaughtFields → ℕ → ℕ → ℕ → Sighting
+begun c i point order = record { first = i; at = c.at; point = point; order = order; by_0 = None; by_1 = None; is_more = false }
 
 -- a sighting with a copy, by how often its direction carried its frame before
 abbrev pub joined : Ring → CaughtFields → ℕ → Sighting → Sighting
 joined ring c carried seen = with_copy seen (way_of ring c) c.at (nat_lt 0 carried)
+
+-- a moment comes no sooner than a sighting's first copy, and so soon after it that 32 bits have room for the nanoseconds
+pub record IsSoonAfter (seen : Sighting) (at : ℕ) : Type 0 where
+  pub later : seen.at ≤ at
+  pub soon : at < seen.at + 2 ^ 32

@@ -1,10 +1,10 @@
 //! A frame as a point saw it, in the whole capture.
-ghost use Rattle.std.specs.Prelude.{◌≡◌, ◌+◌, ◌-◌, ◌<◌, ◌^◌, ◌++◌, ◌∷◌, [], if◌then◌else◌, length, min, None, slice_get, slice_index, slice_set, IfOk, OnOk, Some};
+ghost use Rattle.std.specs.Prelude.{◌≡◌, ◌+◌, ◌-◌, ◌<◌, ◌^◌, ◌++◌, ◌∷◌, [], ℕ, List, if◌then◌else◌, length, min, None, slice_get, slice_index, slice_set, IfOk, OnOk, Some};
 ghost use Rattle.hsr_sightings.specs.Copies.{carried_before};
 ghost use Rattle.hsr_sightings.specs.Finding.{AreFound, IsPreviousSighting};
 ghost use Rattle.hsr_sightings.specs.Read.{AreRead, AreSightings, HasPlaces, HasWays, TellsEach};
 ghost use Rattle.hsr_sightings.specs.Ring.{point_of, way_of};
-ghost use Rattle.hsr_sightings.specs.Seen.{begun, came_both, fate_of, is_edge, joined, key_by, sighting_keyed, skew_of, way_of_seen, with_copy};
+ghost use Rattle.hsr_sightings.specs.Seen.{IsSoonAfter, begun, came_both, fate_of, is_edge, joined, key_by, sighting_keyed, skew_of, way_of_seen, with_copy};
 ghost use Rattle.hsr_sightings.specs.Fields.{Sighting};
 
 use crate::ring::{FORGET_TIME, Ring};
@@ -17,16 +17,16 @@ use std::marker::Model;
 /// How many points there may be, as numbers.
 const POINTS: u64 = 64;
 
-/// A frame as a point saw it. Its first copy came one way, so that the moment of one other copy is enough: it takes 32 octets of room,
-/// two thirds of what it took with a moment for each way, and a large capture has a list of a million.
+/// A frame as a point saw it. Its first copy came one way, so that one other moment is enough, and that comes less than the time of a
+/// frame later, so that 32 bits have room for it: it takes 24 octets, half of what it took with a moment for each way, and a large
+/// capture has a list of a million.
 #[derive(Drop)]
 pub struct Sighting {
     at: u64,
-    /// The moment of the first copy on the other way; 0 where there is none.
-    other: u64,
+    /// From that moment to the first copy on the other way, in nanoseconds; 0 where there is none.
+    skew: u32,
     order: u32,
     first: u32,
-    frame: u32,
     point: u8,
     /// Whether the first copy came on way 1.
     is_1_first: bool,
@@ -35,7 +35,7 @@ pub struct Sighting {
 }
 
 impl Model for Sighting {
-    ghost use Rattle.std.specs.Prelude.{if◌then◌else◌, Some, None};
+    ghost use Rattle.std.specs.Prelude.{◌+◌, ◌<◌, ◌^◌, if◌then◌else◌, Some, None};
     ghost use Rattle.hsr_sightings.specs.Fields.{Sighting};
 
     ghost Value = { Sighting };
@@ -43,13 +43,14 @@ impl Model for Sighting {
     ghost view = { λ s. record {
       first = s.first;
       at = s.at;
-      frame = s.frame;
       point = s.point;
       order = s.order;
-      by_0 = if s.is_1_first then (if s.has_other then Some s.other else None) else Some s.at;
-      by_1 = if s.is_1_first then Some s.at else (if s.has_other then Some s.other else None);
+      by_0 = if s.is_1_first then (if s.has_other then Some (s.at + s.skew) else None) else Some s.at;
+      by_1 = if s.is_1_first then Some s.at else (if s.has_other then Some (s.at + s.skew) else None);
       is_more = s.is_more;
     } };
+
+    ghost invariant = { λ s. s.at + s.skew < 2 ^ 64 };
 }
 
 /// All sightings in the order of their first copies, and of each copy the index of its sighting.
@@ -113,7 +114,7 @@ impl Sighting {
         ensures { result ≡ self.now.by_0 }
     {
         if self.is_1_first {
-            moment_if(self.has_other, self.other)
+            moment_if(self.has_other, self.at + u64::from(self.skew))
         } else {
             Some(self.at)
         }
@@ -126,7 +127,7 @@ impl Sighting {
         if self.is_1_first {
             Some(self.at)
         } else {
-            moment_if(self.has_other, self.other)
+            moment_if(self.has_other, self.at + u64::from(self.skew))
         }
     }
 
@@ -136,10 +137,9 @@ impl Sighting {
     {
         Sighting {
             at: self.at,
-            other: self.other,
+            skew: self.skew,
             order: self.order,
             first: self.first,
-            frame: self.frame,
             point: self.point,
             is_1_first: self.is_1_first,
             has_other: self.has_other,
@@ -167,14 +167,15 @@ impl Sighting {
 
     /// With a copy that came one way.
     fn with(&self, way: u8, at: u64, is_again: bool) -> Sighting
-        requires { way < 2 }
+        requires way { way < 2 }
+        requires soon { IsSoonAfter self.now at }
         ensures { result ≡ with_copy self.now way at is_again }
     {
         let is_known = self.has_other || (way == 1) == self.is_1_first;
         let mut seen = self.copied();
         seen.is_more = self.is_more || is_again;
         if !is_known {
-            seen.other = at;
+            seen.skew = (at - self.at) as u32;
             seen.has_other = true;
         }
         seen
@@ -235,24 +236,16 @@ fn keyed(ring: &Ring<'_>, caught: &Caught<'_>, first: u32) -> Keyed
 }
 
 /// A sighting that begins with a copy, by how often its direction carried its frame before.
-fn begun(
-    ring: &Ring<'_>,
-    caught: &Caught<'_>,
-    carried: u32,
-    i: u32,
-    frame: u32,
-    order: u32,
-) -> Sighting
+fn begun(ring: &Ring<'_>, caught: &Caught<'_>, carried: u32, i: u32, order: u32) -> Sighting
     requires point { point_of ring.now caught.now < 64 }
     requires way { way_of ring.now caught.now < 2 }
-    ensures { result ≡ joined ring.now caught.now carried (begun caught.now i frame (point_of ring.now caught.now) order) }
+    ensures { result ≡ joined ring.now caught.now carried (begun caught.now i (point_of ring.now caught.now) order) }
 {
     Sighting {
         at: caught.at(),
-        other: 0,
+        skew: 0,
         order,
         first: i,
-        frame,
         point: ring.point_of(caught) as u8,
         is_1_first: ring.way_of(caught) == 1,
         has_other: false,
@@ -262,7 +255,8 @@ fn begun(
 
 /// A sighting with a copy, by how often its direction carried its frame before.
 fn joined(ring: &Ring<'_>, caught: &Caught<'_>, carried: u32, seen: &Sighting) -> Sighting
-    requires { way_of ring.now caught.now < 2 }
+    requires way { way_of ring.now caught.now < 2 }
+    requires soon { IsSoonAfter seen.now caught.now.at }
     ensures { result ≡ joined ring.now caught.now carried seen.now }
 {
     seen.with(ring.way_of(caught), caught.at(), carried > 0)
@@ -294,7 +288,6 @@ fn put_begun(
     ring: &Ring<'_>,
     caught: &Caught<'_>,
     i: u32,
-    frame: u32,
     carried: u32,
 ) -> Result<(), NoMemory>
     requires point { point_of ring.now caught.now < length found.old.begun.items }
@@ -302,14 +295,14 @@ fn put_begun(
     requires way { way_of ring.now caught.now < 2 }
     requires few { length found.old.all.items < 2 ^ 32 }
     ensures all { OnOk result (found.new.all.items ≡ found.old.all.items
-        ++ joined ring.now caught.now carried (begun caught.now i frame (point_of ring.now caught.now) (slice_index found.old.begun.items (point_of ring.now caught.now))) ∷ []) }
+        ++ joined ring.now caught.now carried (begun caught.now i (point_of ring.now caught.now) (slice_index found.old.begun.items (point_of ring.now caught.now))) ∷ []) }
     ensures of_copy { OnOk result (found.new.of_copy.items ≡ found.old.of_copy.items ++ length found.old.all.items ∷ []) }
     ensures counts { OnOk result (found.new.begun.items
         ≡ slice_set found.old.begun.items (point_of ring.now caught.now) (min (slice_index found.old.begun.items (point_of ring.now caught.now) + 1) (2 ^ 32 - 1))) }
 {
     let order = next_at(&mut found.begun, ring.point_of(caught));
     let number = found.all.len() as u32;
-    let seen = begun(ring, caught, carried, i, frame, order);
+    let seen = begun(ring, caught, carried, i, order);
     found.all.push(seen)?;
     found.of_copy.push(number)?;
     Ok(())
@@ -325,6 +318,7 @@ fn put_joined(
 ) -> Result<(), NoMemory>
     requires number { number < length found.old.all.items }
     requires way { way_of ring.now caught.now < 2 }
+    requires soon { (seen : Sighting) → slice_get found.old.all.items number ≡ Some seen → IsSoonAfter seen caught.now.at }
     ensures all { OnOk result ((seen : Sighting) → slice_get found.old.all.items number ≡ Some seen
         → found.new.all.items ≡ slice_set found.old.all.items number (joined ring.now caught.now carried seen)) }
     ensures of_copy { OnOk result (found.new.of_copy.items ≡ found.old.of_copy.items ++ number ∷ []) }
@@ -342,12 +336,11 @@ fn put_copy(
     found: &mut Found,
     ring: &Ring<'_>,
     copies: &[Caught<'_>],
-    firsts: &[u32],
     carried: &[u32],
     previous: Option<u32>,
     i: usize,
 ) -> Result<(), NoMemory>
-    requires read { AreRead copies.now firsts.now }
+    requires read { (firsts : List ℕ) × AreRead copies.now firsts }
     requires carried { TellsEach carried_before copies.now carried.now }
     requires places { HasPlaces ring.now }
     requires ways { HasWays ring.now }
@@ -358,7 +351,7 @@ fn put_copy(
 {
     let caught = &copies[i];
     match previous {
-        None => put_begun(found, ring, caught, i as u32, firsts[i], carried[i]),
+        None => put_begun(found, ring, caught, i as u32, carried[i]),
         Some(j) => {
             let number = found.of_copy[j as usize];
             put_joined(found, ring, caught, number, carried[i])
@@ -389,7 +382,7 @@ pub fn sightings_of(
     };
     for i in 0..copies.len() {
         let own = previous.next(alloc, keyed(ring, &copies[i], firsts[i]), i as u32)?;
-        put_copy(&mut found, ring, copies, firsts, carried, own, i)?;
+        put_copy(&mut found, ring, copies, carried, own, i)?;
     }
     Ok(Sightings {
         all: found.all,

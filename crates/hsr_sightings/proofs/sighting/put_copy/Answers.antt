@@ -4,7 +4,7 @@ use Rattle.std.proofs.lemmas.Option.{get_or_from_slice_get, slice_get_read, slic
 use Rattle.hsr_frame_groups.specs.Frames.{past_of}
 use Rattle.hsr_sightings.specs.Copies.{carried_before}
 use Rattle.hsr_sightings.specs.Finding.{AreFound, IsPreviousSighting}
-use Rattle.hsr_sightings.proofs.Gathering.{begin_step, join_step, own_number}
+use Rattle.hsr_sightings.proofs.Gathering.{begin_step, join_step, own_number, soon_after}
 use Rattle.hsr_sightings.proofs.sighting.put_copy.Goals as goal
 
 all_three : {T E P Q R S : Type 0} (r : Result T E) → OnOk r P → OnOk r Q → OnOk r R → (P → Q → R → S) → OnOk r S
@@ -22,11 +22,21 @@ put_joined-requires-clause-number c =
     let own = own_number c.args.ring.now copies i c.in-Some.j c.index-number.result.now x found.all.items found.of_copy.items found.begun.items here c.requires.found previous c.index-number.ensures in
     slice_get_within found.all.items c.index-number.result.now own.seen own.numbered
 
+pub put_joined-requires-clause-soon : goal.put_joined-requires-clause-soon
+put_joined-requires-clause-soon c =
+    let copies = c.args.copies.now in
+    let i = c.args.i in
+    let x = c.index-copies-i.result in
+    let found = c.args.found.now in
+    let here = slice_get_read copies _ i x refl c.requires.below c.index-copies-i.is in
+    let previous = subst (IsPreviousSighting c.args.ring.now copies i) c.in-Some.is c.requires.previous in
+    let own = own_number c.args.ring.now copies i c.in-Some.j c.index-number.result.now x found.all.items found.of_copy.items found.begun.items here c.requires.found previous c.index-number.ensures in
+    soon_after c.args.ring.now copies c.requires.read.0 i c.index-number.result.now x found.all.items found.of_copy.items found.begun.items c.requires.read.1 here c.requires.found own
+
 pub returns-in-None : goal.returns-in-None
 returns-in-None c =
     let copies = c.args.copies.now in
     let ring = c.args.ring.now in
-    let firsts = c.args.firsts.now in
     let i = c.args.i in
     let x = c.index-copies-i.result in
     let found = c.args.found.now in
@@ -38,7 +48,7 @@ returns-in-None c =
     all_three c.put_begun.result c.put_begun.ensures.all c.put_begun.ensures.of_copy c.put_begun.ensures.counts (λ all of_copy counts.
     subst (λ l. AreFound ring copies (i + 1) new.all.items l new.begun.items) (sym of_copy)
     (subst (λ l. AreFound ring copies (i + 1) l (found.of_copy.items ++ length found.all.items ∷ []) new.begun.items) (sym all)
-    (begin_step ring copies firsts i (slice_index c.args.carried.now i) x found.all.items found.of_copy.items found.begun.items new.begun.items c.requires.read here count c.requires.found none
+    (begin_step ring copies c.requires.read.0 i (slice_index c.args.carried.now i) x found.all.items found.of_copy.items found.begun.items new.begun.items c.requires.read.1 here count c.requires.found none
     (c.requires.places x.direction) counts)))
 
 pub returns-in-Some : goal.returns-in-Some
