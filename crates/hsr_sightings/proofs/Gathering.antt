@@ -228,6 +228,10 @@ slice_get_set_other (x ∷ xs) zero (suc j) y other = refl
 slice_get_set_other (x ∷ xs) (suc i) zero y other = refl
 slice_get_set_other (x ∷ xs) (suc i) (suc j) y other = slice_get_set_other xs i j y (λ e. other (ap suc e))
 
+-- places behind one that is set
+pub left_set : {X : Type 0} (xs : List X) (i k : ℕ) (y : X) → i < k → slice_get (set xs i y) k ≡ slice_get xs k
+left_set xs i k y before = slice_get_set_other xs i k y (λ e. omega (arith, before, e))
+
 pub slice_get_push : {X : Type 0} (xs : List X) (y x : X) (k : ℕ) → slice_get (xs ++ y ∷ []) k ≡ Some x → (slice_get xs k ≡ Some x) ⊎ ((k ≡ length xs) × (x ≡ y))
 slice_get_push xs y x k here = by_case (cases_lt k (length xs))
   where
@@ -357,21 +361,21 @@ counts_still ring copies i c old here none counts point n at_point =
 
 -- ---- of each copy its sighting, with one more
 
-own_more : (ring : Ring) (copies : List CaughtFields) (i k : ℕ) (c : CaughtFields) (all new : List Sighting) (of_copy : List ℕ) → slice_get copies i ≡ Some c → length of_copy ≡ i → Keeps all new
+own_more : (ring : Ring) (copies : List CaughtFields) (i k : ℕ) (c : CaughtFields) (all new : List Sighting) (of_copy : List ℕ) → slice_get copies i ≡ Some c → i < length of_copy → Keeps all new
     → IsSightingOf ring copies new i c k
     → ((j : ℕ) (d : CaughtFields) → j < i → slice_get copies j ≡ Some d → (n : ℕ) × (slice_get of_copy j ≡ Some n) × IsSightingOf ring copies all j d n)
-    → (j : ℕ) (d : CaughtFields) → j < i + 1 → slice_get copies j ≡ Some d → (n : ℕ) × (slice_get (of_copy ++ k ∷ []) j ≡ Some n) × IsSightingOf ring copies new j d n
-own_more ring copies i k c all new of_copy here long keeps of_c own j d below at_j = by_case (cases_lt j i)
+    → (j : ℕ) (d : CaughtFields) → j < i + 1 → slice_get copies j ≡ Some d → (n : ℕ) × (slice_get (set of_copy i k) j ≡ Some n) × IsSightingOf ring copies new j d n
+own_more ring copies i k c all new of_copy here room keeps of_c own j d below at_j = by_case (cases_lt j i)
   where
-    by_case : (j < i) ⊎ (i ≤ j) → (n : ℕ) × (slice_get (of_copy ++ k ∷ []) j ≡ Some n) × IsSightingOf ring copies new j d n
+    by_case : (j < i) ⊎ (i ≤ j) → (n : ℕ) × (slice_get (set of_copy i k) j ≡ Some n) × IsSightingOf ring copies new j d n
     by_case (inl before) =
         let was = own j d before at_j in
-        (was.0, slice_get_left of_copy (k ∷ []) j (omega (arith, before, long)) ∙ was.1, of_kept ring copies all new j was.0 d keeps was.2)
+        (was.0, slice_get_set_other of_copy i j k (λ e. omega (arith, before, e)) ∙ was.1, of_kept ring copies all new j was.0 d keeps was.2)
     by_case (inr past) =
         let place : i ≡ j = omega (arith, past, below) in
         let same : c ≡ d = same_Some c d (sym here ∙ ap (slice_get copies) place ∙ at_j) in (
           k,
-          ap (slice_get (of_copy ++ k ∷ [])) (sym place) ∙ slice_get_end of_copy k i long,
+          ap (slice_get (set of_copy i k)) (sym place) ∙ slice_get_set_own of_copy i k room,
           subst (λ n. IsSightingOf ring copies new n d k) place (subst (λ x. IsSightingOf ring copies new i x k) same of_c),
         )
 
@@ -380,12 +384,12 @@ own_more ring copies i k c all new of_copy here long keeps of_c own j d below at
 pub begin_step : (ring : Ring) (copies : List CaughtFields) (firsts : List ℕ) (i carried : ℕ) (c : CaughtFields) (all : List Sighting) (of_copy begun_old begun_new : List ℕ) → AreRead copies firsts
     → slice_get copies i ≡ Some c → carried ≡ carried_before (past_of copies i) c → AreFound ring copies i all of_copy begun_old → IsPreviousSighting ring copies i None → point_of ring c < 64
     → begun_new ≡ set begun_old (point_of ring c) (min (slice_index begun_old (point_of ring c) + 1) (2 ^ 32 - 1))
-    → AreFound ring copies (i + 1) (all ++ joined ring c carried (begun c i (point_of ring c) (slice_index begun_old (point_of ring c))) ∷ []) (of_copy ++ length all ∷ []) begun_new
+    → AreFound ring copies (i + 1) (all ++ joined ring c carried (begun c i (point_of ring c) (slice_index begun_old (point_of ring c))) ∷ []) (set of_copy i (length all)) begun_new
 begin_step ring copies firsts i carried c all of_copy begun_old begun_new read here carried_is found none place begun_is = record {
   each = λ k s at_k. by_old k s (slice_get_push all own s k at_k);
   order = λ j k s t before at_j at_k. by_order j k s t before (slice_get_push all own s j at_j) (slice_get_push all own t k at_k) at_k;
-  own = own_more ring copies i (length all) c all (all ++ own ∷ []) of_copy here found.long (keeps_push all own) of_own found.own;
-  long = length_push of_copy (length all) ∙ ap (λ n. n + 1) found.long;
+  own = own_more ring copies i (length all) c all (all ++ own ∷ []) of_copy here (omega (arith, inside, found.long)) (keeps_push all own) of_own found.own;
+  long = length-set of_copy i (length all) ∙ found.long;
   few = omega (arith, length_push all own, found.few);
   counts = counts_more ring copies i c begun_old begun_new here (omega (arith, inside, read.few)) begins begun_is (omega (arith, place, found.points)) found.counts;
   points = ap length begun_is ∙ length-set begun_old (point_of ring c) _ ∙ found.points;
@@ -448,12 +452,12 @@ begin_step ring copies firsts i carried c all of_copy begun_old begun_new read h
 
 pub join_step : (ring : Ring) (copies : List CaughtFields) (i k carried : ℕ) (c : CaughtFields) (all new : List Sighting) (of_copy begun_old : List ℕ) → slice_get copies i ≡ Some c
     → carried ≡ carried_before (past_of copies i) c → AreFound ring copies i all of_copy begun_old → (of_c : IsSightingOf ring copies all i c k) → new ≡ set all k (joined ring c carried of_c.seen)
-    → AreFound ring copies (i + 1) new (of_copy ++ k ∷ []) begun_old
-join_step ring copies i k carried c all new of_copy begun_old here carried_is found of_c new_is = subst (λ l. AreFound ring copies (i + 1) l (of_copy ++ k ∷ []) begun_old) (sym new_is) (record {
+    → AreFound ring copies (i + 1) new (set of_copy i k) begun_old
+join_step ring copies i k carried c all new of_copy begun_old here carried_is found of_c new_is = subst (λ l. AreFound ring copies (i + 1) l (set of_copy i k) begun_old) (sym new_is) (record {
   each = λ n s at_n. by_old n s (slice_get_set all k n own s at_n);
   order = rise_set all k of_c.seen own of_c.numbered refl found.order;
-  own = own_more ring copies i k c all (set all k own) of_copy here found.long keeps (of_kept ring copies all (set all k own) i k c keeps of_c) found.own;
-  long = length_push of_copy k ∙ ap (λ n. n + 1) found.long;
+  own = own_more ring copies i k c all (set all k own) of_copy here (omega (arith, inside, found.long)) keeps (of_kept ring copies all (set all k own) i k c keeps of_c) found.own;
+  long = length-set of_copy i k ∙ found.long;
   few = omega (arith, length-set all k own, found.few);
   counts = counts_still ring copies i c begun_old here begins found.counts;
   points = found.points;
@@ -535,15 +539,21 @@ sighting_of_same ring copies all j i k b c is same = record {
   same = record { frame = is.same.frame ∙ same.frame; point = is.same.point ∙ same.point };
 }
 
+-- of a copy that is left the copy that began its frame is told still
+pub left_read : (firsts left : List ℕ) (i entry : ℕ) → i < length firsts → ((k : ℕ) → i ≤ k → slice_get left k ≡ slice_get firsts k) → entry ≡ get_or left i entry → entry ≡ slice_index firsts i
+left_read firsts left i entry inside same is =
+    is ∙ get_or_from_slice_get left i (slice_index firsts i) entry (same i (omega arith) ∙ slice_get-get_or firsts i 0 inside)
+
 -- ---- the whole
 
 -- before the first copy nothing is found
-pub none_found : (ring : Ring) (copies : List CaughtFields) (begun_old : List ℕ) → length begun_old ≡ 64 → ((point n : ℕ) → slice_get begun_old point ≡ Some n → n ≡ 0) → AreFound ring copies 0 [] [] begun_old
-none_found ring copies begun_old long zeros = record {
+pub none_found : (ring : Ring) (copies : List CaughtFields) (of_copy begun_old : List ℕ) → length of_copy ≡ length copies → length begun_old ≡ 64
+    → ((point n : ℕ) → slice_get begun_old point ≡ Some n → n ≡ 0) → AreFound ring copies 0 [] of_copy begun_old
+none_found ring copies of_copy begun_old room long zeros = record {
   each = λ k s at_k. absurd cc;
   order = λ j k s t before at_j at_k. absurd cc;
   own = λ j c below at_j. absurd (omega (arith, below));
-  long = refl;
+  long = room;
   few = omega arith;
   counts = zeros;
   points = long;
@@ -555,7 +565,7 @@ all_found ring copies all of_copy begun_old n all_read found = record {
   each = λ k s at_k. subst (λ past. IsBegun ring copies past s) whole (found.each k s at_k).1;
   order = found.order;
   own = λ j c at_j. let below : j < length copies = slice_get_within copies j c at_j in found.own j c (omega (arith, below, all_read)) at_j;
-  long = found.long ∙ all_read;
+  long = found.long;
 }
   where
     whole : past_of copies n ≡ reverse copies

@@ -11,7 +11,7 @@ pub record AreFound (ring : Ring) (copies : List CaughtFields) (i : ℕ) (all : 
   pub each : (k : ℕ) (s : Sighting) → slice_get all k ≡ Some s → (s.first < i) × IsBegun ring copies (past_of copies i) s
   pub order : Rise all
   pub own : (j : ℕ) (c : CaughtFields) → j < i → slice_get copies j ≡ Some c → (k : ℕ) × (slice_get of_copy j ≡ Some k) × IsSightingOf ring copies all j c k
-  pub long : length of_copy ≡ i
+  pub long : length of_copy ≡ length copies
   pub few : length all ≤ i
   pub counts : (point n : ℕ) → slice_get begun point ≡ Some n → n ≡ length (begun_at ring point (past_of copies i))
   pub points : length begun ≡ 64

@@ -266,6 +266,7 @@ fn joined(ring: &Ring<'_>, caught: &Caught<'_>, carried: u32, seen: &Sighting) -
 #[derive(Drop)]
 struct Found {
     all: Vec<Sighting>,
+    /// Of each copy so far the number of its sighting, and of each copy that is left the one that began its frame.
     of_copy: Vec<u32>,
     /// How many began at each point.
     begun: Vec<u32>,
@@ -294,9 +295,10 @@ fn put_begun(
     requires place { point_of ring.now caught.now < 64 }
     requires way { way_of ring.now caught.now < 2 }
     requires few { length found.old.all.items < 2 ^ 32 }
+    requires room { i < length found.old.of_copy.items }
     ensures all { OnOk result (found.new.all.items ≡ found.old.all.items
         ++ joined ring.now caught.now carried (begun caught.now i (point_of ring.now caught.now) (slice_index found.old.begun.items (point_of ring.now caught.now))) ∷ []) }
-    ensures of_copy { OnOk result (found.new.of_copy.items ≡ found.old.of_copy.items ++ length found.old.all.items ∷ []) }
+    ensures of_copy { OnOk result (found.new.of_copy.items ≡ slice_set found.old.of_copy.items i (length found.old.all.items)) }
     ensures counts { OnOk result (found.new.begun.items
         ≡ slice_set found.old.begun.items (point_of ring.now caught.now) (min (slice_index found.old.begun.items (point_of ring.now caught.now) + 1) (2 ^ 32 - 1))) }
 {
@@ -304,31 +306,32 @@ fn put_begun(
     let number = found.all.len() as u32;
     let seen = begun(ring, caught, carried, i, order);
     found.all.push(seen)?;
-    found.of_copy.push(number)?;
+    found.of_copy[i as usize] = number;
     Ok(())
 }
 
-/// Puts a copy into the sighting with a number.
+/// Puts the copy at an index into the sighting with a number.
 fn put_joined(
     found: &mut Found,
     ring: &Ring<'_>,
     caught: &Caught<'_>,
+    i: u32,
     number: u32,
     carried: u32,
-) -> Result<(), NoMemory>
+)
     requires number { number < length found.old.all.items }
+    requires room { i < length found.old.of_copy.items }
     requires way { way_of ring.now caught.now < 2 }
     requires soon { (seen : Sighting) → slice_get found.old.all.items number ≡ Some seen → IsSoonAfter seen caught.now.at }
-    ensures all { OnOk result ((seen : Sighting) → slice_get found.old.all.items number ≡ Some seen
-        → found.new.all.items ≡ slice_set found.old.all.items number (joined ring.now caught.now carried seen)) }
-    ensures of_copy { OnOk result (found.new.of_copy.items ≡ found.old.of_copy.items ++ number ∷ []) }
-    ensures counts { OnOk result (found.new.begun.items ≡ found.old.begun.items) }
+    ensures all { (seen : Sighting) → slice_get found.old.all.items number ≡ Some seen
+        → found.new.all.items ≡ slice_set found.old.all.items number (joined ring.now caught.now carried seen) }
+    ensures of_copy { found.new.of_copy.items ≡ slice_set found.old.of_copy.items i number }
+    ensures counts { found.new.begun.items ≡ found.old.begun.items }
 {
     let place = number as usize;
     let seen = joined(ring, caught, carried, &found.all[place]);
     found.all[place] = seen;
-    found.of_copy.push(number)?;
-    Ok(())
+    found.of_copy[i as usize] = number;
 }
 
 /// Puts the copy at an index, by the previous copy of its frame at its point.
@@ -347,27 +350,30 @@ fn put_copy(
     requires below { i < length copies.now }
     requires found { AreFound ring.now copies.now i found.old.all.items found.old.of_copy.items found.old.begun.items }
     requires previous { IsPreviousSighting ring.now copies.now i previous }
-    ensures { OnOk result (AreFound ring.now copies.now (i + 1) found.new.all.items found.new.of_copy.items found.new.begun.items) }
+    ensures found { OnOk result (AreFound ring.now copies.now (i + 1) found.new.all.items found.new.of_copy.items found.new.begun.items) }
+    ensures left { OnOk result ((k : ℕ) → i < k → slice_get found.new.of_copy.items k ≡ slice_get found.old.of_copy.items k) }
 {
     let caught = &copies[i];
     match previous {
         None => put_begun(found, ring, caught, i as u32, carried[i]),
         Some(j) => {
             let number = found.of_copy[j as usize];
-            put_joined(found, ring, caught, number, carried[i])
+            put_joined(found, ring, caught, i as u32, number, carried[i]);
+            Ok(())
         }
     }
 }
 
-/// Each frame at each point that saw it, by the frame and by how often its direction carried it before, of each copy.
+/// Each frame at each point that saw it, by the copy that began the frame and by how often its direction carried it before, of each copy.
+/// The list of those that began frames goes here: the number of a copy's sighting takes the room of the entry that was read.
 pub fn sightings_of(
     alloc: Global,
     ring: &Ring<'_>,
     copies: &[Caught<'_>],
-    firsts: &[u32],
+    firsts: Vec<u32>,
     carried: &[u32],
 ) -> Result<Sightings, NoMemory>
-    requires read { AreRead copies.now firsts.now }
+    requires read { AreRead copies.now firsts.items }
     requires carried { TellsEach carried_before copies.now carried.now }
     requires places { HasPlaces ring.now }
     requires ways { HasWays ring.now }
@@ -377,11 +383,11 @@ pub fn sightings_of(
     // Room is taken for as many sightings as copies, at once, as it is used page by page.
     let mut found = Found {
         all: Vec::with_capacity(alloc, copies.len())?,
-        of_copy: Vec::with_capacity(alloc, copies.len())?,
+        of_copy: firsts,
         begun: vec![in alloc; 0u32; POINTS as usize]?,
     };
     for i in 0..copies.len() {
-        let own = previous.next(alloc, keyed(ring, &copies[i], firsts[i]), i as u32)?;
+        let own = previous.next(alloc, keyed(ring, &copies[i], found.of_copy[i]), i as u32)?;
         put_copy(&mut found, ring, copies, carried, own, i)?;
     }
     Ok(Sightings {

@@ -1,15 +1,19 @@
-use Rattle.std.proofs.Common.{◌≡◌, ◌+◌, ◌++◌, ◌∷◌, [], length, refl, subst, sym}
-use Rattle.std.specs.Prelude.{slice_index, OnOk, Result, Ok, Err}
+use Rattle.std.proofs.Common.{◌≡◌, ◌+◌, ◌∙◌, ap, length, refl, set, subst, sym}
+use Rattle.std.specs.Prelude.{slice_get, slice_index, OnOk, Result, Ok, Err}
 use Rattle.std.proofs.lemmas.Option.{get_or_from_slice_get, slice_get_read, slice_get_within}
 use Rattle.hsr_frame_groups.specs.Frames.{past_of}
 use Rattle.hsr_sightings.specs.Copies.{carried_before}
 use Rattle.hsr_sightings.specs.Finding.{AreFound, IsPreviousSighting}
-use Rattle.hsr_sightings.proofs.Gathering.{begin_step, join_step, own_number, soon_after}
+use Rattle.hsr_sightings.proofs.Gathering.{begin_step, join_step, left_set, own_number, soon_after}
 use Rattle.hsr_sightings.proofs.sighting.put_copy.Goals as goal
 
 all_three : {T E P Q R S : Type 0} (r : Result T E) → OnOk r P → OnOk r Q → OnOk r R → (P → Q → R → S) → OnOk r S
 all_three (Ok x) p q r f = f p q r
 all_three (Err e) p q r f = tt
+
+on_ok : {T E P Q : Type 0} (r : Result T E) → OnOk r P → (P → Q) → OnOk r Q
+on_ok (Ok x) p f = f p
+on_ok (Err e) p f = tt
 
 pub put_joined-requires-clause-number : goal.put_joined-requires-clause-number
 put_joined-requires-clause-number c =
@@ -33,8 +37,8 @@ put_joined-requires-clause-soon c =
     let own = own_number c.args.ring.now copies i c.in-Some.j c.index-number.result.now x found.all.items found.of_copy.items found.begun.items here c.requires.found previous c.index-number.ensures in
     soon_after c.args.ring.now copies c.requires.read.0 i c.index-number.result.now x found.all.items found.of_copy.items found.begun.items c.requires.read.1 here c.requires.found own
 
-pub returns-in-None : goal.returns-in-None
-returns-in-None c =
+pub returns-in-None-clause-found : goal.returns-in-None-clause-found
+returns-in-None-clause-found c =
     let copies = c.args.copies.now in
     let ring = c.args.ring.now in
     let i = c.args.i in
@@ -47,12 +51,16 @@ returns-in-None c =
     let none = subst (IsPreviousSighting ring copies i) c.in-None.is c.requires.previous in
     all_three c.put_begun.result c.put_begun.ensures.all c.put_begun.ensures.of_copy c.put_begun.ensures.counts (λ all of_copy counts.
     subst (λ l. AreFound ring copies (i + 1) new.all.items l new.begun.items) (sym of_copy)
-    (subst (λ l. AreFound ring copies (i + 1) l (found.of_copy.items ++ length found.all.items ∷ []) new.begun.items) (sym all)
+    (subst (λ l. AreFound ring copies (i + 1) l (set found.of_copy.items i (length found.all.items)) new.begun.items) (sym all)
     (begin_step ring copies c.requires.read.0 i (slice_index c.args.carried.now i) x found.all.items found.of_copy.items found.begun.items new.begun.items c.requires.read.1 here count c.requires.found none
     (c.requires.places x.direction) counts)))
 
-pub returns-in-Some : goal.returns-in-Some
-returns-in-Some c =
+pub returns-in-None-clause-left : goal.returns-in-None-clause-left
+returns-in-None-clause-left c = on_ok c.put_begun.result c.put_begun.ensures.of_copy (λ of_copy k before.
+    ap (λ l. slice_get l k) of_copy ∙ left_set c.args.found.now.of_copy.items c.args.i k (length c.args.found.now.all.items) before)
+
+pub returns-in-Some-clause-found : goal.returns-in-Some-clause-found
+returns-in-Some-clause-found c =
     let copies = c.args.copies.now in
     let ring = c.args.ring.now in
     let i = c.args.i in
@@ -65,7 +73,11 @@ returns-in-Some c =
     = get_or_from_slice_get c.args.carried.now i (carried_before (past_of copies i) x) 0 (c.requires.carried.each i x here) in
     let previous = subst (IsPreviousSighting ring copies i) c.in-Some.is c.requires.previous in
     let own = own_number ring copies i c.in-Some.j number x found.all.items found.of_copy.items found.begun.items here c.requires.found previous c.index-number.ensures in
-    all_three c.put_joined.result c.put_joined.ensures.all c.put_joined.ensures.of_copy c.put_joined.ensures.counts (λ all of_copy counts.
-    subst (λ l. AreFound ring copies (i + 1) new.all.items l new.begun.items) (sym of_copy)
-    (subst (λ l. AreFound ring copies (i + 1) new.all.items (found.of_copy.items ++ number ∷ []) l) (sym counts)
-    (join_step ring copies i number (slice_index c.args.carried.now i) x found.all.items new.all.items found.of_copy.items found.begun.items here count c.requires.found own (all own.seen own.numbered))))
+    subst (λ l. AreFound ring copies (i + 1) new.all.items l new.begun.items) (sym c.put_joined.ensures.of_copy)
+    (subst (λ l. AreFound ring copies (i + 1) new.all.items (set found.of_copy.items i number) l) (sym c.put_joined.ensures.counts)
+    (join_step ring copies i number (slice_index c.args.carried.now i) x found.all.items new.all.items found.of_copy.items found.begun.items here count c.requires.found own
+    (c.put_joined.ensures.all own.seen own.numbered)))
+
+pub returns-in-Some-clause-left : goal.returns-in-Some-clause-left
+returns-in-Some-clause-left c = λ k before.
+    ap (λ l. slice_get l k) c.put_joined.ensures.of_copy ∙ left_set c.args.found.now.of_copy.items c.args.i k c.index-number.result.now before
