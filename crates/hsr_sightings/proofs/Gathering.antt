@@ -8,7 +8,7 @@ use Rattle.std.proofs.lemmas.Option.{get_or_from_slice_get, same_Some, slice_get
 use Rattle.hsr_frame_groups.specs.Frames.{CaughtFields, frame_time, past_of}
 use Rattle.hsr_recent_table.specs.declared.previous.Keyed.{Keyed}
 use Rattle.hsr_recent_table.specs.Previous.{AreInTime, IsPreviousOf}
-use Rattle.hsr_sightings.specs.Copies.{begins_there, begun_at, carried_before}
+use Rattle.hsr_sightings.specs.Copies.{begins_there, begun_at, carried_before, times_before}
 use Rattle.hsr_sightings.specs.Finding.{AreFound, IsPreviousSighting}
 use Rattle.hsr_sightings.specs.Frames.{copies_of, frame_of}
 use Rattle.hsr_sightings.specs.Read.{AreRead, AreSightings, HasPlaces, IsBegun, IsSameSighting, IsSighting, IsSightingOf, Rise, first_by}
@@ -18,6 +18,7 @@ use Rattle.hsr_sightings.specs.Sightings.{first_seen, is_more, sighting}
 use Rattle.hsr_sightings.specs.Fields.{Sighting}
 use Rattle.hsr_sightings.proofs.Counting.{slice_get_end, slice_get_left}
 use Rattle.hsr_sightings.proofs.Indexes.{keys_from, keys_from_at, keys_from_long, keys_rise, none_there, not_before, past_more, past_same, same_first, same_frame, within_frame}
+use Rattle.hsr_sightings.proofs.Times.{some_same}
 
 -- ---- the copies of a frame that pass a test
 
@@ -146,7 +147,7 @@ or_swap false true = refl
 or_swap false false = refl
 
 is_joined : (ring : Ring) (copies : List CaughtFields) (m i carried : ℕ) (b c : CaughtFields) (s : Sighting) → slice_get copies i ≡ Some c → IsSighting ring copies (past_of copies i) m b s
-    → IsSameSighting ring copies m i b c → carried ≡ carried_before (past_of copies i) c → IsSighting ring copies (past_of copies (i + 1)) m b (joined ring c carried s)
+    → IsSameSighting ring copies m i b c → carried ≡ times_before (past_of copies i) c → IsSighting ring copies (past_of copies (i + 1)) m b (joined ring c carried s)
 is_joined ring copies m i carried b c s here is same carried_is = record {
   first = is.first;
   at = is.at;
@@ -154,7 +155,8 @@ is_joined ring copies m i carried b c s here is same carried_is = record {
   order = is.order;
   by_0 = ap (λ o. cond (nat_eq (way_of ring c) 0) (first_of o c.at) o) is.by_0 ∙ sym (first_more ring 0 c seen) ∙ ap (first_by ring 0) (sym grown);
   by_1 = ap (λ o. cond (nat_eq (way_of ring c) 1) (first_of o c.at) o) is.by_1 ∙ sym (first_more ring 1 c seen) ∙ ap (first_by ring 1) (sym grown);
-  is_more = ap (λ t. t || nat_lt 0 carried) is.is_more ∙ ap (λ n. is_more seen || nat_lt 0 n) carried_is ∙ ap (λ t. is_more seen || t) (sym again)
+  is_more = ap (λ t. t || nat_lt 0 carried) is.is_more ∙ ap (λ n. is_more seen || nat_lt 0 n) carried_is
+      ∙ ap (λ t. is_more seen || t) (some_same (carried_before (past_of copies i) c) ∙ sym again)
       ∙ or_swap (is_more seen) (list_any (is_in c.direction) seen) ∙ ap is_more (sym grown);
 }
   where
@@ -382,7 +384,7 @@ own_more ring copies i k c all new of_copy here room keeps of_c own j d below at
 -- ---- a copy that begins a sighting
 
 pub begin_step : (ring : Ring) (copies : List CaughtFields) (firsts : List ℕ) (i carried : ℕ) (c : CaughtFields) (all : List Sighting) (of_copy begun_old begun_new : List ℕ) → AreRead copies firsts
-    → slice_get copies i ≡ Some c → carried ≡ carried_before (past_of copies i) c → AreFound ring copies i all of_copy begun_old → IsPreviousSighting ring copies i None → point_of ring c < 64
+    → slice_get copies i ≡ Some c → carried ≡ times_before (past_of copies i) c → AreFound ring copies i all of_copy begun_old → IsPreviousSighting ring copies i None → point_of ring c < 64
     → begun_new ≡ set begun_old (point_of ring c) (min (slice_index begun_old (point_of ring c) + 1) (2 ^ 32 - 1))
     → AreFound ring copies (i + 1) (all ++ joined ring c carried (begun c i (point_of ring c) (slice_index begun_old (point_of ring c))) ∷ []) (set of_copy i (length all)) begun_new
 begin_step ring copies firsts i carried c all of_copy begun_old begun_new read here carried_is found none place begun_is = record {
@@ -451,7 +453,7 @@ begin_step ring copies firsts i carried c all of_copy begun_old begun_new read h
 -- ---- a copy of a sighting that is there
 
 pub join_step : (ring : Ring) (copies : List CaughtFields) (i k carried : ℕ) (c : CaughtFields) (all new : List Sighting) (of_copy begun_old : List ℕ) → slice_get copies i ≡ Some c
-    → carried ≡ carried_before (past_of copies i) c → AreFound ring copies i all of_copy begun_old → (of_c : IsSightingOf ring copies all i c k) → new ≡ set all k (joined ring c carried of_c.seen)
+    → carried ≡ times_before (past_of copies i) c → AreFound ring copies i all of_copy begun_old → (of_c : IsSightingOf ring copies all i c k) → new ≡ set all k (joined ring c carried of_c.seen)
     → AreFound ring copies (i + 1) new (set of_copy i k) begun_old
 join_step ring copies i k carried c all new of_copy begun_old here carried_is found of_c new_is = subst (λ l. AreFound ring copies (i + 1) l (set of_copy i k) begun_old) (sym new_is) (record {
   each = λ n s at_n. by_old n s (slice_get_set all k n own s at_n);

@@ -3,6 +3,8 @@ pub mod Carrying
 pub mod Clashing
 pub mod Counting
 pub mod Passing
+pub mod Times
 pub mod Gathering
+pub mod Most
 pub mod Demanding
 pub mod Crowding

@@ -8,7 +8,7 @@ use Rattle.hsr_frame_groups.specs.Frames.{CaughtFields, frame_time, past_of}
 use Rattle.hsr_recent_table.specs.declared.previous.Keyed.{Keyed}
 use Rattle.hsr_recent_table.specs.Previous.{AreInTime, IsPreviousOf}
 use Rattle.hsr_sightings.specs.Clash.{copy_found}
-use Rattle.hsr_sightings.specs.Copies.{carried_before, is_again, is_behind, is_passed, is_recent, top_before, top_in, top_with}
+use Rattle.hsr_sightings.specs.Copies.{carried_before, is_again, is_behind, is_passed, is_recent, times_before, top_before, top_in, top_with}
 use Rattle.hsr_sightings.specs.Keys.{beside_key}
 use Rattle.hsr_sightings.specs.Passed.{AreTops, IsForgotten, TellsTop, beside_keyed, is_passed_at, is_passed_by, overtaken_by, overtaken_in, top_after, top_by}
 use Rattle.hsr_sightings.specs.Read.{AreRead, TellsEach, overtaken_at, overtaken_from}
@@ -16,6 +16,7 @@ use Rattle.hsr_sightings.specs.Ring.{forget_time}
 use Rattle.hsr_sightings.specs.declared.overtaken.Overtaken.{Overtaken}
 use Rattle.hsr_sightings.proofs.Counting.{get_or_end}
 use Rattle.hsr_sightings.proofs.Indexes.{keyed_at, keys_rise, none_there, not_before, past_more, past_same, picked_stands}
+use Rattle.hsr_sightings.proofs.Times.{none_same}
 
 -- ---- keys
 
@@ -108,7 +109,7 @@ passed_same copies c (Some top) None is = sym (old_passes top c is)
 passed_same copies c o (Some k) is = ap (λ x. is_passed x c) is
 
 -- the greatest so far, with a copy
-pub top_step : (copies : List CaughtFields) (i : ℕ) (c : CaughtFields) (carried : ℕ) (t : Option ℕ) → slice_get copies i ≡ Some c → carried ≡ carried_before (past_of copies i) c
+pub top_step : (copies : List CaughtFields) (i : ℕ) (c : CaughtFields) (carried : ℕ) (t : Option ℕ) → slice_get copies i ≡ Some c → carried ≡ times_before (past_of copies i) c
     → TellsTop copies c.at (top_before (past_of copies i) c) t → TellsTop copies c.at (top_in (beside_key c) (past_of copies (i + 1))) (top_after copies carried t i)
 top_step copies i c carried t here is told =
     subst (λ past. TellsTop copies c.at (top_in (beside_key c) past) (top_after copies carried t i)) (sym (past_more copies i c here))
@@ -117,7 +118,7 @@ top_step copies i c carried t here is told =
   where
     after : top_after copies carried t i ≡ cond (not (is_again (past_of copies i) c) && not (is_passed (top_before (past_of copies i) c) c)) (Some i) t
     after =
-        ap (λ b. cond (b && not (is_passed_at copies t i)) (Some i) t) (ap (λ n. nat_eq n 0) is ∙ first_same (carried_before (past_of copies i) c))
+        ap (λ b. cond (b && not (is_passed_at copies t i)) (Some i) t) (ap (λ n. nat_eq n 0) is ∙ none_same (carried_before (past_of copies i) c) ∙ first_same (carried_before (past_of copies i) c))
         ∙ ap (λ b. cond (not (is_again (past_of copies i) c) && not b) (Some i) t)
         (ap (is_passed_by (copy_found copies t)) here ∙ passed_same copies c (top_before (past_of copies i) c) t told)
 
@@ -161,12 +162,12 @@ overtaken_same copies i carried c (Some top) None is =
     sym (cond-false (nat_eq carried 0 && is_passed (Some top) c) (Some (told_of i top)) None (and_right (nat_eq carried 0) (is_passed (Some top) c) (old_passes top c is)))
 overtaken_same copies i carried c o (Some k) is = ap (λ x. overtaken_by i carried x (Some c)) is ∙ overtaken_told i carried c o
 
-pub overtaken_is : (copies : List CaughtFields) (i carried : ℕ) (c : CaughtFields) (t : Option ℕ) → slice_get copies i ≡ Some c → carried ≡ carried_before (past_of copies i) c
+pub overtaken_is : (copies : List CaughtFields) (i carried : ℕ) (c : CaughtFields) (t : Option ℕ) → slice_get copies i ≡ Some c → carried ≡ times_before (past_of copies i) c
     → TellsTop copies c.at (top_before (past_of copies i) c) t → overtaken_in copies carried t i ≡ overtaken_at i (past_of copies i) c
 overtaken_is copies i carried c t here is told =
     ap (overtaken_by i carried (copy_found copies t)) here ∙ overtaken_same copies i carried c (top_before (past_of copies i) c) t told
     ∙ ap (λ b. cond (b && is_passed (top_before (past_of copies i) c) c) (option_map (told_of i) (top_before (past_of copies i) c)) None)
-    (ap (λ n. nat_eq n 0) is ∙ first_same (carried_before (past_of copies i) c))
+    (ap (λ n. nat_eq n 0) is ∙ none_same (carried_before (past_of copies i) c) ∙ first_same (carried_before (past_of copies i) c))
 
 -- those of one more copy
 pub overtaken_more : (copies : List CaughtFields) (i : ℕ) (c : CaughtFields) (old new all : List Overtaken) (own : Option Overtaken) → slice_get copies i ≡ Some c
@@ -181,9 +182,9 @@ overtaken_more copies i c old new all own here own_is is told =
 
 -- the copy at an index, by what is told of the previous one
 pub overtaken_step : (copies : List CaughtFields) (carried : List ℕ) (i : ℕ) (c : CaughtFields) (top : Option ℕ) (own : Option Overtaken) (old new all : List Overtaken)
-    → TellsEach carried_before copies carried → slice_get copies i ≡ Some c → TellsTop copies c.at (top_before (past_of copies i) c) top
+    → TellsEach times_before copies carried → slice_get copies i ≡ Some c → TellsTop copies c.at (top_before (past_of copies i) c) top
     → own ≡ overtaken_in copies (slice_index carried i) top i → new ≡ old ++ option_to_list own
     → old ++ overtaken_from copies i (drop i copies) ≡ all → new ++ overtaken_from copies (i + 1) (drop (i + 1) copies) ≡ all
 overtaken_step copies carried i c top own old new all counts here top_is own_is new_is told =
-    let count : slice_index carried i ≡ carried_before (past_of copies i) c = get_or_from_slice_get carried i (carried_before (past_of copies i) c) 0 (counts.each i c here) in
+    let count : slice_index carried i ≡ times_before (past_of copies i) c = get_or_from_slice_get carried i (times_before (past_of copies i) c) 0 (counts.each i c here) in
     overtaken_more copies i c old new all own here (own_is ∙ overtaken_is copies i (slice_index carried i) c top here count top_is) new_is told

@@ -6,7 +6,7 @@
 --     is_overtaken  its direction carried a greater number of its source, less than 400 ms before
 --     needed        how many frames a table has to hold so that it knows the copy's
 --     crowd         how many frames began at the point in the last 400 ms
-use Rattle.std.specs.Prelude.{ℕ, ◌+◌, ◌-◌, ◌%◌, ◌==◌, ◌&&◌, ◌||◌, max, not, nat_le, nat_lt, Bool, false, if◌then◌else◌, List, [], ◌∷◌, length, filter, find, Option, Some, None}
+use Rattle.std.specs.Prelude.{ℕ, ◌+◌, ◌-◌, ◌%◌, ◌==◌, ◌&&◌, ◌||◌, max, min, not, nat_le, nat_lt, Bool, false, if◌then◌else◌, List, [], ◌∷◌, length, filter, find, Option, Some, None}
 use Rattle.hsr_frame_copies.specs.Alike.{says_same}
 use Rattle.hsr_frame_groups.specs.Frames.{CaughtFields, key_of}
 use Rattle.hsr_sightings.specs.Frames.{begins, earlier}
@@ -30,6 +30,10 @@ first_of_past c (b ∷ past) = first_of_past b past
 -- how often its direction carried its frame before
 abbrev pub carried_before : List CaughtFields → CaughtFields → ℕ
 carried_before past c = length (filter (is_in c.direction) (earlier past c))
+
+-- the same as it is kept in one octet: 255 for more
+abbrev pub times_before : List CaughtFields → CaughtFields → ℕ
+times_before past c = min (carried_before past c) 255
 
 abbrev pub is_again : List CaughtFields → CaughtFields → Bool
 is_again past c = nat_le 1 (carried_before past c)
@@ -133,6 +137,10 @@ count_copies is_such (c ∷ past) = if is_such past c then count_copies is_such 
 abbrev pub most_of : (List CaughtFields → CaughtFields → ℕ) → List CaughtFields → ℕ
 most_of amount [] = 0
 most_of amount (c ∷ past) = max (amount past c) (most_of amount past)
+
+-- the most copies of a frame that a direction carried
+abbrev pub most_carried : ℕ → List CaughtFields → ℕ
+most_carried direction copies = most_of (λ past c. if is_in direction c then carried_before past c + 1 else 0) copies
 
 -- the first copy in time that is such
 abbrev pub first_such : (List CaughtFields → CaughtFields → Bool) → List CaughtFields → Option CaughtFields

@@ -17,7 +17,7 @@ mod overtaken;
 mod ring;
 mod sighting;
 
-pub use again::carried_of;
+pub use again::{Carried, carried_of};
 pub use clash::{begins_of, clashes_of};
 pub use late::{Crowd, crowds_of, is_late, lates_of, needed_of};
 pub use overtaken::{Overtaken, overtaken_of};

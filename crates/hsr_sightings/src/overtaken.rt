@@ -1,6 +1,6 @@
 //! Copies behind a greater number of their source and priority, on their direction.
 ghost use Rattle.std.specs.Prelude.{◌≡◌, ◌<◌, ◌++◌, length, map, option_to_list, IfOk, OnOk};
-ghost use Rattle.hsr_sightings.specs.Copies.{carried_before, is_behind, is_passed};
+ghost use Rattle.hsr_sightings.specs.Copies.{is_behind, is_passed, times_before};
 ghost use Rattle.hsr_sightings.specs.Keys.{beside_key, priority_of};
 ghost use Rattle.hsr_sightings.specs.Passed.{beside_keyed, is_passed_at, overtaken_in, top_after, top_by};
 ghost use Rattle.hsr_sightings.specs.Read.{AreOvertaken, AreRead, TellsEach};
@@ -88,7 +88,7 @@ fn top_by(tops: &[Option<u32>], found: Option<u32>) -> Option<u32>
 }
 
 /// The greatest so far, with the copy at an index.
-fn top_after(copies: &[Caught<'_>], carried: u32, top: Option<u32>, i: u32) -> Option<u32>
+fn top_after(copies: &[Caught<'_>], carried: u8, top: Option<u32>, i: u32) -> Option<u32>
     requires { i < length copies.now }
     ensures { result ≡ top_after copies.now carried top i }
 {
@@ -100,7 +100,7 @@ fn top_after(copies: &[Caught<'_>], carried: u32, top: Option<u32>, i: u32) -> O
 }
 
 /// What is told of the copy at an index, if it was overtaken.
-fn overtaken_in(copies: &[Caught<'_>], carried: u32, top: Option<u32>, i: u32) -> Option<Overtaken>
+fn overtaken_in(copies: &[Caught<'_>], carried: u8, top: Option<u32>, i: u32) -> Option<Overtaken>
     requires { i < length copies.now }
     ensures { result ≡ overtaken_in copies.now carried top i }
 {
@@ -136,10 +136,10 @@ pub fn overtaken_of(
     alloc: Global,
     copies: &[Caught<'_>],
     firsts: &[u32],
-    carried: &[u32],
+    carried: &[u8],
 ) -> Result<Vec<Overtaken>, NoMemory>
     requires read { AreRead copies.now firsts.now }
-    requires carried { TellsEach carried_before copies.now carried.now }
+    requires carried { TellsEach times_before copies.now carried.now }
     ensures { IfOk result (λ overtaken. AreOvertaken copies.now overtaken.items) }
 {
     let mut previous = Previous::new(alloc, FRAME_TIME);

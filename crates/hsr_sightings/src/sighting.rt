@@ -1,6 +1,6 @@
 //! A frame as a point saw it, in the whole capture.
 ghost use Rattle.std.specs.Prelude.{◌≡◌, ◌+◌, ◌-◌, ◌<◌, ◌^◌, ◌++◌, ◌∷◌, [], ℕ, List, if◌then◌else◌, length, min, None, slice_get, slice_index, slice_set, IfOk, OnOk, Some};
-ghost use Rattle.hsr_sightings.specs.Copies.{carried_before};
+ghost use Rattle.hsr_sightings.specs.Copies.{times_before};
 ghost use Rattle.hsr_sightings.specs.Finding.{AreFound, IsPreviousSighting};
 ghost use Rattle.hsr_sightings.specs.Read.{AreRead, AreSightings, HasPlaces, HasWays, TellsEach};
 ghost use Rattle.hsr_sightings.specs.Ring.{point_of, way_of};
@@ -236,7 +236,7 @@ fn keyed(ring: &Ring<'_>, caught: &Caught<'_>, first: u32) -> Keyed
 }
 
 /// A sighting that begins with a copy, by how often its direction carried its frame before.
-fn begun(ring: &Ring<'_>, caught: &Caught<'_>, carried: u32, i: u32, order: u32) -> Sighting
+fn begun(ring: &Ring<'_>, caught: &Caught<'_>, carried: u8, i: u32, order: u32) -> Sighting
     requires point { point_of ring.now caught.now < 64 }
     requires way { way_of ring.now caught.now < 2 }
     ensures { result ≡ joined ring.now caught.now carried (begun caught.now i (point_of ring.now caught.now) order) }
@@ -254,7 +254,7 @@ fn begun(ring: &Ring<'_>, caught: &Caught<'_>, carried: u32, i: u32, order: u32)
 }
 
 /// A sighting with a copy, by how often its direction carried its frame before.
-fn joined(ring: &Ring<'_>, caught: &Caught<'_>, carried: u32, seen: &Sighting) -> Sighting
+fn joined(ring: &Ring<'_>, caught: &Caught<'_>, carried: u8, seen: &Sighting) -> Sighting
     requires way { way_of ring.now caught.now < 2 }
     requires soon { IsSoonAfter seen.now caught.now.at }
     ensures { result ≡ joined ring.now caught.now carried seen.now }
@@ -289,7 +289,7 @@ fn put_begun(
     ring: &Ring<'_>,
     caught: &Caught<'_>,
     i: u32,
-    carried: u32,
+    carried: u8,
 ) -> Result<(), NoMemory>
     requires point { point_of ring.now caught.now < length found.old.begun.items }
     requires place { point_of ring.now caught.now < 64 }
@@ -317,7 +317,7 @@ fn put_joined(
     caught: &Caught<'_>,
     i: u32,
     number: u32,
-    carried: u32,
+    carried: u8,
 )
     requires number { number < length found.old.all.items }
     requires room { i < length found.old.of_copy.items }
@@ -339,12 +339,12 @@ fn put_copy(
     found: &mut Found,
     ring: &Ring<'_>,
     copies: &[Caught<'_>],
-    carried: &[u32],
+    carried: &[u8],
     previous: Option<u32>,
     i: usize,
 ) -> Result<(), NoMemory>
     requires read { (firsts : List ℕ) × AreRead copies.now firsts }
-    requires carried { TellsEach carried_before copies.now carried.now }
+    requires carried { TellsEach times_before copies.now carried.now }
     requires places { HasPlaces ring.now }
     requires ways { HasWays ring.now }
     requires below { i < length copies.now }
@@ -371,10 +371,10 @@ pub fn sightings_of(
     ring: &Ring<'_>,
     copies: &[Caught<'_>],
     firsts: Vec<u32>,
-    carried: &[u32],
+    carried: &[u8],
 ) -> Result<Sightings, NoMemory>
     requires read { AreRead copies.now firsts.items }
-    requires carried { TellsEach carried_before copies.now carried.now }
+    requires carried { TellsEach times_before copies.now carried.now }
     requires places { HasPlaces ring.now }
     requires ways { HasWays ring.now }
     ensures { IfOk result (λ found. AreSightings ring.now copies.now found.all.items found.of_copy.items) }

@@ -4,7 +4,7 @@ use Rattle.std.proofs.lemmas.Option.{get_or_from_slice_get, same_Some, slice_get
 use Rattle.hsr_frame_groups.specs.Frames.{CaughtFields, frame_time, past_of}
 use Rattle.hsr_recent_table.specs.declared.previous.Keyed.{Keyed}
 use Rattle.hsr_recent_table.specs.Previous.{IsPreviousOf}
-use Rattle.hsr_sightings.specs.Copies.{carried_before, top_before, top_in}
+use Rattle.hsr_sightings.specs.Copies.{times_before, top_before, top_in}
 use Rattle.hsr_sightings.specs.Keys.{beside_key}
 use Rattle.hsr_sightings.specs.Passed.{TellsTop, beside_keyed, top_by}
 use Rattle.hsr_sightings.proofs.Indexes.{no_later}
@@ -41,7 +41,7 @@ loop-i-preserved c =
     let top_is : top ≡ top_by tops found = c.top_by-top.ensures ∙ ap (λ l. top_by l found) c.as_slice.ensures.value in
     let told : TellsTop copies x.at (top_before (past_of copies i) x) top
     = subst (TellsTop copies x.at (top_before (past_of copies i) x)) (sym top_is) (top_told copies firsts keys tops i i c.requires.read refl c.loop-i.invariant.tops (omega arith) x here found is) in
-    let count : slice_index carried i ≡ carried_before (past_of copies i) x = get_or_from_slice_get carried i (carried_before (past_of copies i) x) 0 (c.requires.carried.each i x here) in
+    let count : slice_index carried i ≡ times_before (past_of copies i) x = get_or_from_slice_get carried i (times_before (past_of copies i) x) 0 (c.requires.carried.each i x here) in
     let after : TellsTop copies x.at (top_in (beside_key x) (past_of copies (i + 1))) c.top_after.result
     = subst (TellsTop copies x.at (top_in (beside_key x) (past_of copies (i + 1)))) (sym c.top_after.ensures) (top_step copies i x (slice_index carried i) top here count told) in
     record {

@@ -2,7 +2,7 @@ use Rattle.std.proofs.Common.{◌≡◌, ◌+◌, ◌∙◌, ap, length, refl, s
 use Rattle.std.specs.Prelude.{slice_get, slice_index, OnOk, Result, Ok, Err}
 use Rattle.std.proofs.lemmas.Option.{get_or_from_slice_get, slice_get_read, slice_get_within}
 use Rattle.hsr_frame_groups.specs.Frames.{past_of}
-use Rattle.hsr_sightings.specs.Copies.{carried_before}
+use Rattle.hsr_sightings.specs.Copies.{times_before}
 use Rattle.hsr_sightings.specs.Finding.{AreFound, IsPreviousSighting}
 use Rattle.hsr_sightings.proofs.Gathering.{begin_step, join_step, left_set, own_number, soon_after}
 use Rattle.hsr_sightings.proofs.sighting.put_copy.Goals as goal
@@ -46,8 +46,8 @@ returns-in-None-clause-found c =
     let found = c.args.found.now in
     let new = c.put_begun.new.found in
     let here = slice_get_read copies _ i x refl c.requires.below c.index-copies-i.is in
-    let count : slice_index c.args.carried.now i ≡ carried_before (past_of copies i) x
-    = get_or_from_slice_get c.args.carried.now i (carried_before (past_of copies i) x) 0 (c.requires.carried.each i x here) in
+    let count : slice_index c.args.carried.now i ≡ times_before (past_of copies i) x
+    = get_or_from_slice_get c.args.carried.now i (times_before (past_of copies i) x) 0 (c.requires.carried.each i x here) in
     let none = subst (IsPreviousSighting ring copies i) c.in-None.is c.requires.previous in
     all_three c.put_begun.result c.put_begun.ensures.all c.put_begun.ensures.of_copy c.put_begun.ensures.counts (λ all of_copy counts.
     subst (λ l. AreFound ring copies (i + 1) new.all.items l new.begun.items) (sym of_copy)
@@ -69,8 +69,8 @@ returns-in-Some-clause-found c =
     let number = c.index-number.result.now in
     let new = c.put_joined.new.found in
     let here = slice_get_read copies _ i x refl c.requires.below c.index-copies-i.is in
-    let count : slice_index c.args.carried.now i ≡ carried_before (past_of copies i) x
-    = get_or_from_slice_get c.args.carried.now i (carried_before (past_of copies i) x) 0 (c.requires.carried.each i x here) in
+    let count : slice_index c.args.carried.now i ≡ times_before (past_of copies i) x
+    = get_or_from_slice_get c.args.carried.now i (times_before (past_of copies i) x) 0 (c.requires.carried.each i x here) in
     let previous = subst (IsPreviousSighting ring copies i) c.in-Some.is c.requires.previous in
     let own = own_number ring copies i c.in-Some.j number x found.all.items found.of_copy.items found.begun.items here c.requires.found previous c.index-number.ensures in
     subst (λ l. AreFound ring copies (i + 1) new.all.items l new.begun.items) (sym c.put_joined.ensures.of_copy)

@@ -4,7 +4,7 @@ use Rattle.hsr_frame_groups.specs.Frames.{CaughtFields, frame_time, past_of}
 use Rattle.hsr_recent_table.specs.Ready.{HaveCome}
 use Rattle.hsr_sightings.specs.Copies.{carried_before}
 use Rattle.hsr_sightings.proofs.Carrying.{carried_keys}
-use Rattle.hsr_sightings.proofs.again.carried_of.Given as goal
+use Rattle.hsr_sightings.proofs.again.counts_of.Given as goal
 
 -- each copy so far has come and is counted, and no count is greater than its place
 abbrev pub invariant-loop-i : goal.invariant-loop-i
