@@ -67,7 +67,7 @@ pub(crate) fn came_by(seen: &Sighting, way: u8) -> bool
 /// Of each of so many sources whether one of these frames is its and came one way.
 fn marks_by(
     alloc: Global,
-    of_copy: &[u32],
+    of_copy: &[u16],
     seen: &[Sighting],
     many: usize,
     way: u8,
@@ -110,7 +110,7 @@ fn those_of(alloc: Global, macs: &[Mac], marks: &[bool]) -> Result<Vec<Mac>, NoM
 fn those_by(
     alloc: Global,
     macs: &[Mac],
-    of_copy: &[u32],
+    of_copy: &[u16],
     seen: &[Sighting],
     way: u8,
 ) -> Result<Vec<Mac>, NoMemory>
@@ -135,7 +135,7 @@ fn moment_at(seen: &[Sighting], k: usize) -> u64
 fn told_of(
     alloc: Global,
     macs: &[Mac],
-    of_copy: &[u32],
+    of_copy: &[u16],
     point: usize,
     seen: &[Sighting],
 ) -> Result<Span, NoMemory>
@@ -166,7 +166,7 @@ fn no_run(alloc: Global, many: usize) -> Result<Going, NoMemory>
 }
 
 /// Goes on with a run.
-fn grow(going: &mut Going, of_copy: &[u32], seen: &Sighting) -> Result<(), NoMemory>
+fn grow(going: &mut Going, of_copy: &[u16], seen: &Sighting) -> Result<(), NoMemory>
     ensures seen { OnOk result (going.new.seen.items ≡ going.old.seen.items ++ seen.now ∷ []) }
     ensures is_of { OnOk result (going.new.is_of.items ≡ changed (λ own. own || true) (slice_index of_copy.now seen.now.first) going.old.is_of.items) }
 {
@@ -180,7 +180,7 @@ fn put_run(
     spans: &mut Vec<Span>,
     alloc: Global,
     macs: &[Mac],
-    of_copy: &[u32],
+    of_copy: &[u16],
     point: usize,
     seen: &[Sighting],
 ) -> Result<(), NoMemory>
@@ -197,7 +197,7 @@ fn end_run(
     going: &mut Going,
     alloc: Global,
     macs: &[Mac],
-    of_copy: &[u32],
+    of_copy: &[u16],
     point: usize,
 ) -> Result<(), NoMemory>
     ensures { OnOk result (IsEnded macs.now of_copy.now point (kept spans.old.items going.old) (kept spans.new.items going.new)) }
@@ -228,7 +228,7 @@ fn is_once(ring: &Ring<'_>, seen: &Sighting) -> bool
 }
 
 /// Whether a frame of a run's source came both ways.
-fn is_over(of_copy: &[u32], is_of: &[bool], seen: &Sighting) -> bool
+fn is_over(of_copy: &[u16], is_of: &[bool], seen: &Sighting) -> bool
     ensures { result ≡ is_over of_copy.now is_of.now seen.now }
 {
     let is_own = is_of
@@ -244,7 +244,7 @@ fn put_group(
     going: &mut Going,
     alloc: Global,
     ring: &Ring<'_>,
-    of_copy: &[u32],
+    of_copy: &[u16],
     macs: &[Mac],
     point: usize,
     seen: &Sighting,
@@ -270,7 +270,7 @@ fn put_seen(
     alloc: Global,
     ring: &Ring<'_>,
     copies: &[Caught<'_>],
-    of_copy: &[u32],
+    of_copy: &[u16],
     macs: &[Mac],
     point: usize,
     seen: &Sighting,
@@ -298,7 +298,7 @@ fn close(
     spans: &mut Vec<Span>,
     alloc: Global,
     macs: &[Mac],
-    of_copy: &[u32],
+    of_copy: &[u16],
     point: usize,
     going: &Going,
 ) -> Result<(), NoMemory>
@@ -317,7 +317,7 @@ fn put_runs(
     alloc: Global,
     ring: &Ring<'_>,
     copies: &[Caught<'_>],
-    of_copy: &[u32],
+    of_copy: &[u16],
     macs: &[Mac],
     sightings: &[Sighting],
     point: usize,
@@ -349,7 +349,7 @@ fn put_runs_if(
     alloc: Global,
     ring: &Ring<'_>,
     copies: &[Caught<'_>],
-    of_copy: &[u32],
+    of_copy: &[u16],
     macs: &[Mac],
     sightings: &[Sighting],
     point: usize,
@@ -412,7 +412,7 @@ pub(crate) fn spans_of(
     alloc: Global,
     ring: &Ring<'_>,
     copies: &[Caught<'_>],
-    of_copy: &[u32],
+    of_copy: &[u16],
     macs: &[Mac],
     sightings: &[Sighting],
     both: &[bool],

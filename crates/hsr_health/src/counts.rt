@@ -153,7 +153,7 @@ pub(crate) fn marks_of(
 }
 
 /// The source of a copy.
-pub(crate) fn source_of(of_copy: &[u32], copy: u32) -> usize
+pub(crate) fn source_of(of_copy: &[u16], copy: u32) -> usize
     ensures { result ≡ slice_index of_copy.now copy }
 {
     of_copy.get(copy as usize).copied().unwrap_or(0) as usize
@@ -177,7 +177,7 @@ fn count_copy(counts: &mut Vec<Counts>, source: usize, marks: Marks, caught: &Ca
 }
 
 /// Counts the copies of each source.
-fn count_copies(counts: &mut Vec<Counts>, copies: &[Caught<'_>], of_copy: &[u32], marks: &[Marks])
+fn count_copies(counts: &mut Vec<Counts>, copies: &[Caught<'_>], of_copy: &[u16], marks: &[Marks])
     requires sources { length of_copy.now ≡ length copies.now }
     requires marks { length marks.now ≡ length copies.now }
     ensures long { length counts.new.items ≡ length counts.old.items }
@@ -222,7 +222,7 @@ fn count_sighting(
     counts: &mut Vec<Counts>,
     ring: &Ring<'_>,
     copies: &[Caught<'_>],
-    of_copy: &[u32],
+    of_copy: &[u16],
     seen: &Sighting,
 )
     ensures long { length counts.new.items ≡ length counts.old.items }
@@ -245,7 +245,7 @@ fn count_fates(
     counts: &mut Vec<Counts>,
     ring: &Ring<'_>,
     copies: &[Caught<'_>],
-    of_copy: &[u32],
+    of_copy: &[u16],
     sightings: &[Sighting],
 )
     ensures long { length counts.new.items ≡ length counts.old.items }
@@ -258,7 +258,7 @@ fn count_fates(
 }
 
 /// What is told of a sighting's source: its skew in microseconds, if it has one.
-fn told_of(of_copy: &[u32], seen: &Sighting) -> Option<Told>
+fn told_of(of_copy: &[u16], seen: &Sighting) -> Option<Told>
     ensures { result ≡ told_by of_copy.now seen.now }
 {
     match skew_of(seen) {
@@ -284,7 +284,7 @@ fn put_told(all: &mut Amounts, told: Option<Told>) -> Result<(), NoMemory>
 /// The skews of all sightings, each with those of its source.
 fn all_skews(
     alloc: Global,
-    of_copy: &[u32],
+    of_copy: &[u16],
     sightings: &[Sighting],
     many: usize,
 ) -> Result<Amounts, NoMemory>
@@ -301,7 +301,7 @@ fn all_skews(
 /// The skews of each source.
 fn skews_of(
     alloc: Global,
-    of_copy: &[u32],
+    of_copy: &[u16],
     sightings: &[Sighting],
     many: usize,
 ) -> Result<Vec<Option<Spread>>, NoMemory>
@@ -351,7 +351,7 @@ pub(crate) fn counts_of(
     alloc: Global,
     ring: &Ring<'_>,
     copies: &[Caught<'_>],
-    of_copy: &[u32],
+    of_copy: &[u16],
     sightings: &[Sighting],
     marks: &[Marks],
     many: usize,

@@ -54,7 +54,7 @@ fn count_unreadable(counts: &mut Vec<Counts>, source: usize)
 }
 
 /// Counts a supervision frame of a source, if it begins.
-fn count_heard(counts: &mut Vec<Counts>, one: &Heard, of_copy: &[u32])
+fn count_heard(counts: &mut Vec<Counts>, one: &Heard, of_copy: &[u16])
     ensures long { length counts.new.items ≡ length counts.old.items }
     ensures counts { counts.new.items ≡ life_put of_copy.now one.now counts.old.items }
 {
@@ -64,7 +64,7 @@ fn count_heard(counts: &mut Vec<Counts>, one: &Heard, of_copy: &[u32])
 }
 
 /// Counts the supervision frames of each source.
-fn count_lives(counts: &mut Vec<Counts>, heard: &[Heard], of_copy: &[u32])
+fn count_lives(counts: &mut Vec<Counts>, heard: &[Heard], of_copy: &[u16])
     ensures long { length counts.new.items ≡ length counts.old.items }
     ensures alike { AreAlike counts.old.items counts.new.items }
     ensures lives { AreMore (λ own. own.lives) (lives_of of_copy.now heard.now) counts.old.items counts.new.items }
@@ -76,7 +76,7 @@ fn count_lives(counts: &mut Vec<Counts>, heard: &[Heard], of_copy: &[u32])
 }
 
 /// Counts the supervision frames of each source that can't be read.
-fn count_unread(counts: &mut Vec<Counts>, unread: &[u32], of_copy: &[u32])
+fn count_unread(counts: &mut Vec<Counts>, unread: &[u32], of_copy: &[u16])
     ensures long { length counts.new.items ≡ length counts.old.items }
     ensures alike { AreAlike counts.old.items counts.new.items }
     ensures unreadable { AreMore (λ own. own.unreadable) (unreadable_of of_copy.now unread.now) counts.old.items counts.new.items }

@@ -100,10 +100,10 @@ pub(crate) fn groups_of(
 }
 
 /// The source of a copy, as the number of a sender.
-fn sender_of(of_copy: &[u32], copy: u32) -> u32
+fn sender_of(of_copy: &[u16], copy: u32) -> u32
     ensures { result ≡ slice_index of_copy.now copy }
 {
-    of_copy.get(copy as usize).copied().unwrap_or(0)
+    u32::from(of_copy.get(copy as usize).copied().unwrap_or(0))
 }
 
 /// The group of a sender, by the groups of sources. There are at most 1024 of them.
@@ -166,7 +166,7 @@ fn put_number(
 pub(crate) fn frame_runs(
     alloc: Global,
     copies: &[Caught<'_>],
-    of_copy: &[u32],
+    of_copy: &[u16],
     groups: &[usize],
     began: &[bool],
     clashes: &[bool],
@@ -191,7 +191,7 @@ pub(crate) fn frame_runs(
 }
 
 /// The number of a supervision frame, by the copy that began it.
-fn life_number(one: &Heard, of_copy: &[u32]) -> Option<Numbered>
+fn life_number(one: &Heard, of_copy: &[u16]) -> Option<Numbered>
     ensures { result ≡ life_number of_copy.now one.now }
 {
     if one.begins {
@@ -209,7 +209,7 @@ fn life_number(one: &Heard, of_copy: &[u32]) -> Option<Numbered>
 }
 
 /// The numbers of supervision frames in their runs, in the order of time: each source counts its own.
-pub(crate) fn life_runs(alloc: Global, heard: &[Heard], of_copy: &[u32]) -> Result<Runs, NoMemory>
+pub(crate) fn life_runs(alloc: Global, heard: &[Heard], of_copy: &[u16]) -> Result<Runs, NoMemory>
     requires { length heard.now < 2 ^ 31 }
     ensures { IfOk result (λ runs. AreRunsOf (filter_map (life_number of_copy.now) heard.now) runs) }
 {

@@ -14,11 +14,11 @@ use std::alloc::Global;
 /// The most sources of a capture.
 pub const MOST_SOURCES: usize = 1024;
 
-/// The sources in the order of their addresses, and of each copy the index of its source.
+/// The sources in the order of their addresses, and of each copy the index of its source: two octets, as there are at most 1024.
 #[derive(Drop)]
 pub(crate) struct Sources {
     pub(crate) macs: Vec<Mac>,
-    pub(crate) of_copy: Vec<u32>,
+    pub(crate) of_copy: Vec<u16>,
 }
 
 /// The source of a copy, as a number.
@@ -95,13 +95,13 @@ fn place_of(macs: &[Mac], number: u64) -> usize
 }
 
 /// Of each number the index of its address.
-fn indexes_of(alloc: Global, numbers: &[u64], macs: &[Mac]) -> Result<Vec<u32>, NoMemory>
+fn indexes_of(alloc: Global, numbers: &[u64], macs: &[Mac]) -> Result<Vec<u16>, NoMemory>
     requires { length macs.now ≤ 1024 }
     ensures { IfOk result (λ indexes. Rise macs.now → AreThere numbers.now macs.now → AreIndexes numbers.now macs.now indexes.items) }
 {
     let mut indexes = Vec::new(alloc);
     for i in 0..numbers.len() {
-        indexes.push(place_of(macs, numbers[i]) as u32)?;
+        indexes.push(place_of(macs, numbers[i]) as u16)?;
     }
     Ok(indexes)
 }
