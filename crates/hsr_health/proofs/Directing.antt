@@ -14,7 +14,7 @@ use Rattle.hsr_sightings.specs.Sightings.{Sighting as Seen, came_by, is_open, is
 use Rattle.hsr_sightings.specs.declared.overtaken.Overtaken.{Overtaken}
 use Rattle.hsr_sightings.specs.Fields.{Sighting}
 use Rattle.hsr_health.specs.Counted.{AreBesides, AreDirected, AreDirections, AreJoined, ArePassed, HaveNoOvertaken, IsBeside, IsJoined, beside_at, beside_with, changed, directed, direction_with, goes_to_group, is_fate, is_judged, is_judged_at, is_kept_at, is_there_in, kept_by, mark_of, more_if, no_beside, no_direction, one_more, other_way, overtaken_in, overtaken_more, overtaken_put, with_beside}
-use Rattle.hsr_health.specs.declared.counts.Marks.{Marks}
+use Rattle.hsr_health.specs.Marks.{Marked}
 use Rattle.hsr_health.specs.declared.directions.Beside.{Beside}
 use Rattle.hsr_health.specs.declared.directions.DirectionNumbers.{DirectionNumbers}
 use Rattle.hsr_health.proofs.Fating.{count_push, count_short, one_step, open_same}
@@ -25,7 +25,7 @@ use Rattle.hsr_sightings.proofs.Gathering.{slice_get_push}
 
 -- ---- copies
 
-pub directed_step : (is_by_lane : ℕ → Bool) (ring : Ring) (copies : List CaughtFields) (i carried : ℕ) (marks : Marks) (c : CaughtFields) (old new : List DirectionNumbers) → slice_get copies i ≡ Some c
+pub directed_step : (is_by_lane : ℕ → Bool) (ring : Ring) (copies : List CaughtFields) (i carried : ℕ) (marks : Marked) (c : CaughtFields) (old new : List DirectionNumbers) → slice_get copies i ≡ Some c
     → carried ≡ carried_before (past_of copies i) c → marks ≡ mark_of is_by_lane ring (past_of copies i) c → new ≡ changed (direction_with carried marks.is_late) c.direction old
     → AreDirected ring copies i old → AreDirected ring copies (i + 1) new
 directed_step is_by_lane ring copies i carried marks c old new here carried_is marks_are is are d own own_d =
@@ -41,7 +41,7 @@ directed_step is_by_lane ring copies i carried marks c old new here carried_is m
         → own ≡ cond (is_in d c) with_one (directed ring d past)
     by_place (inl mine) =
         mine.1.2 ∙ ap (direction_with carried marks.is_late) (are d mine.1.0 mine.1.1) ∙ ap (λ n. direction_with n marks.is_late (directed ring d past)) carried_is
-        ∙ ap (λ (m : Marks). direction_with (carried_before past c) m.is_late (directed ring d past)) marks_are ∙ sym (ap (λ b. cond b with_one (directed ring d past)) (eq-eqb c.direction d (sym mine.0)))
+        ∙ ap (λ (m : Marked). direction_with (carried_before past c) m.is_late (directed ring d past)) marks_are ∙ sym (ap (λ b. cond b with_one (directed ring d past)) (eq-eqb c.direction d (sym mine.0)))
     by_place (inr other) = are d own other.1 ∙ sym (ap (λ b. cond b with_one (directed ring d past)) (ne_eqb c.direction d other.0))
 
 pub none_directed : (ring : Ring) (copies : List CaughtFields) (all : List DirectionNumbers) → ((d : ℕ) (own : DirectionNumbers) → slice_get all d ≡ Some own → own ≡ no_direction) → AreDirected ring copies 0 all

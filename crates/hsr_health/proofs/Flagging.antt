@@ -15,7 +15,7 @@ use Rattle.hsr_health.specs.Told.{IsFirstFlag, IsOfCopies, IsToldWith, first_tol
 use Rattle.hsr_health.specs.What.{copy_what, copy_what_by}
 use Rattle.hsr_health.specs.declared.copy_reasons.Mark.{Mark}
 use Rattle.hsr_health.specs.declared.copy_reasons.Mark.TheVariants as the_mark
-use Rattle.hsr_health.specs.declared.counts.Marks.{Marks}
+use Rattle.hsr_health.specs.Marks.{Marked}
 use Rattle.hsr_health.specs.declared.reason.Reason.{Reason}
 use Rattle.hsr_health.specs.declared.reason.What.{What}
 use Rattle.hsr_health.proofs.Fating.{count_push}
@@ -26,10 +26,10 @@ use Rattle.hsr_sightings.proofs.Demanding.{after_by}
 
 -- ---- flags, one after the other
 
-pub flags_more : (mark : Mark) (carried : List ℕ) (marks : List Marks) (flags new : List Bool) (i n : ℕ) (m : Marks) (own : Bool) → length flags ≡ i → new ≡ flags ++ own ∷ [] → slice_get carried i ≡ Some n
+pub flags_more : (mark : Mark) (carried : List ℕ) (marks : List Marked) (flags new : List Bool) (i n : ℕ) (m : Marked) (own : Bool) → length flags ≡ i → new ≡ flags ++ own ∷ [] → slice_get carried i ≡ Some n
     → slice_get marks i ≡ Some m → own ≡ is_marked mark n m
-    → ((k p : ℕ) (q : Marks) → k < i → slice_get carried k ≡ Some p → slice_get marks k ≡ Some q → slice_get flags k ≡ Some (is_marked mark p q))
-    → (k p : ℕ) (q : Marks) → k < i + 1 → slice_get carried k ≡ Some p → slice_get marks k ≡ Some q → slice_get new k ≡ Some (is_marked mark p q)
+    → ((k p : ℕ) (q : Marked) → k < i → slice_get carried k ≡ Some p → slice_get marks k ≡ Some q → slice_get flags k ≡ Some (is_marked mark p q))
+    → (k p : ℕ) (q : Marked) → k < i + 1 → slice_get carried k ≡ Some p → slice_get marks k ≡ Some q → slice_get new k ≡ Some (is_marked mark p q)
 flags_more mark carried marks flags new i n m own long is carried_i marks_i own_is each k p q below carried_k marks_k = ap (λ l. slice_get l k) is ∙ by_case (cases_lt k i)
   where
     by_case : (k < i) ⊎ (i ≤ k) → slice_get (flags ++ own ∷ []) k ≡ Some (is_marked mark p q)
@@ -48,9 +48,9 @@ marked_such the_mark.Late ring is_by_lane past c = refl
 marked_such the_mark.Size ring is_by_lane past c = refl
 marked_such the_mark.Lane ring is_by_lane past c = refl
 
-pub flags_are : (mark : Mark) (ring : Ring) (is_by_lane : ℕ → Bool) (copies : List CaughtFields) (carried : List ℕ) (marks : List Marks) (flags : List Bool) (n : ℕ) → n ≡ length carried → length flags ≡ n
+pub flags_are : (mark : Mark) (ring : Ring) (is_by_lane : ℕ → Bool) (copies : List CaughtFields) (carried : List ℕ) (marks : List Marked) (flags : List Bool) (n : ℕ) → n ≡ length carried → length flags ≡ n
     → TellsEach carried_before copies carried → TellsEach (mark_of is_by_lane ring) copies marks
-    → ((k p : ℕ) (q : Marks) → k < n → slice_get carried k ≡ Some p → slice_get marks k ≡ Some q → slice_get flags k ≡ Some (is_marked mark p q)) → TellsEach (such_of mark ring is_by_lane) copies flags
+    → ((k p : ℕ) (q : Marked) → k < n → slice_get carried k ≡ Some p → slice_get marks k ≡ Some q → slice_get flags k ≡ Some (is_marked mark p q)) → TellsEach (such_of mark ring is_by_lane) copies flags
 flags_are mark ring is_by_lane copies carried marks flags n many long carried_told marks_told each = record {
   each = λ i c here.
       let inside = slice_get_within copies i c here in

@@ -11,7 +11,7 @@ use Rattle.hsr_sightings.specs.Read.{TellsEach}
 use Rattle.hsr_sightings.specs.Ring.{Ring}
 use Rattle.hsr_health.specs.Counted.{AreCounted, AreSources, changed, count_of, counted, counts_with, first_number, is_of, last_number, mark_of, more_if, no_counts, number_or}
 use Rattle.hsr_health.specs.declared.counts.Counts.{Counts}
-use Rattle.hsr_health.specs.declared.counts.Marks.{Marks}
+use Rattle.hsr_health.specs.Marks.{Marked}
 use Rattle.hsr_health.proofs.Pasts.{past_more}
 
 -- ---- one of several, changed
@@ -47,7 +47,7 @@ is_own c = (bytes_eq-Decides c.copy.src c.copy.src).1 refl
 pub is_other : (mac : List ℕ) (c : CaughtFields) → (c.copy.src ≡ mac → ⊥) → is_of mac c ≡ false
 is_other mac c other = false_from_ne_true (is_of mac c) (λ same. other ((bytes_eq-Decides c.copy.src mac).0 same))
 
-pub counts_step : (is_by_lane : ℕ → Bool) (ring : Ring) (copies : List CaughtFields) (macs : List (List ℕ)) (of_copy : List ℕ) (i source : ℕ) (c : CaughtFields) (marks : Marks) (old new : List Counts)
+pub counts_step : (is_by_lane : ℕ → Bool) (ring : Ring) (copies : List CaughtFields) (macs : List (List ℕ)) (of_copy : List ℕ) (i source : ℕ) (c : CaughtFields) (marks : Marked) (old new : List Counts)
     → slice_get copies i ≡ Some c → AreSources copies macs of_copy → slice_get of_copy i ≡ Some source → marks ≡ mark_of is_by_lane ring (past_of copies i) c
     → new ≡ changed (λ own. counts_with own marks c.copy.seq) source old → AreCounted is_by_lane ring copies macs i old → AreCounted is_by_lane ring copies macs (i + 1) new
 counts_step is_by_lane ring copies macs of_copy i source c marks old new here sources of_c marks_are new_is are k mac own mac_k own_k =
@@ -89,8 +89,8 @@ count_small is_such (c ∷ past) = by_case (count_small is_such past) (is_such p
     by_case rest false = omega (arith, rest)
 
 -- a count of marks is that of such copies
-pub counted_field : (is_by_lane : ℕ → Bool) (ring : Ring) (source : List ℕ) (field : Counts → ℕ) (mark : Marks → Bool) (is_such : List CaughtFields → CaughtFields → Bool)
-    → ((own : Counts) (marks : Marks) (n : ℕ) → field (counts_with own marks n) ≡ more_if (field own) (mark marks))
+pub counted_field : (is_by_lane : ℕ → Bool) (ring : Ring) (source : List ℕ) (field : Counts → ℕ) (mark : Marked → Bool) (is_such : List CaughtFields → CaughtFields → Bool)
+    → ((own : Counts) (marks : Marked) (n : ℕ) → field (counts_with own marks n) ≡ more_if (field own) (mark marks))
     → ((past : List CaughtFields) (c : CaughtFields) → mark (mark_of is_by_lane ring past c) ≡ is_such past c) → field no_counts ≡ 0
     → (past : List CaughtFields) → length past < 2 ^ 63 → field (counted is_by_lane ring no_counts source past) ≡ count_of source is_such past
 counted_field is_by_lane ring source field mark is_such with_is mark_is none [] few = none

@@ -18,7 +18,7 @@ use Rattle.hsr_sightings.specs.Seen.{fate_of, skew_of}
 use Rattle.hsr_sightings.specs.Sightings.{Sighting, came_by, is_more, is_once, is_open, is_to_group, is_twice, sees_both_ways, sightings, skew}
 use Rattle.hsr_health.specs.declared.counts.Counts.{Counts}
 use Rattle.hsr_health.specs.declared.counts.Fates.{Fates}
-use Rattle.hsr_health.specs.declared.counts.Marks.{Marks}
+use Rattle.hsr_health.specs.Marks.{Marked}
 use Rattle.hsr_sightings.specs.declared.overtaken.Overtaken.{Overtaken}
 use Rattle.hsr_health.specs.declared.directions.Beside.{Beside}
 use Rattle.hsr_health.specs.declared.directions.DirectionNumbers.{DirectionNumbers}
@@ -45,7 +45,7 @@ abbrev pub has_wrong_lane : (ℕ → Bool) → Ring → List CaughtFields → Ca
 has_wrong_lane is_by_lane ring past c = not (is_by_lane c.direction) && not (c.copy.path % 2 == way_of ring c)
 
 -- what is counted of a copy
-abbrev pub mark_by : (ℕ → Bool) → Ring → Bool → Bool → Bool → CaughtFields → Marks
+abbrev pub mark_by : (ℕ → Bool) → Ring → Bool → Bool → Bool → CaughtFields → Marked
 mark_by is_by_lane ring began clashes late c = record {
   begins = began;
   is_clash = clashes;
@@ -54,7 +54,7 @@ mark_by is_by_lane ring began clashes late c = record {
   is_wrong_lane = not (is_by_lane c.direction) && not (c.copy.path % 2 == way_of ring c);
 }
 
-abbrev pub mark_of : (ℕ → Bool) → Ring → List CaughtFields → CaughtFields → Marks
+abbrev pub mark_of : (ℕ → Bool) → Ring → List CaughtFields → CaughtFields → Marked
 mark_of is_by_lane ring past c = mark_by is_by_lane ring (begins past c) (is_clash past c) (is_late ring past c) c
 
 -- the number of the first frame, and of the last one
@@ -93,7 +93,7 @@ fates_with fates the_fate.More = record fates { more = one_more fates.more }
 fates_with fates the_fate.Open = record fates { «open» = one_more fates.«open» }
 
 -- with one more copy
-abbrev pub counts_with : Counts → Marks → ℕ → Counts
+abbrev pub counts_with : Counts → Marked → ℕ → Counts
 counts_with counts marks number = record counts {
   frames = more_if counts.frames marks.begins;
   first = if marks.begins && (counts.frames == 0) then number else counts.first;

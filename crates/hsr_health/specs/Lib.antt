@@ -4,6 +4,7 @@ pub mod Loads
 pub mod ByKey
 pub mod Kinds
 pub mod Sources
+pub mod Marks
 pub mod Counted
 pub mod What
 pub mod Told

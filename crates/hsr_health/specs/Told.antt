@@ -22,7 +22,7 @@ use Rattle.hsr_heard.specs.declared.abouts.Silence.{Silence}
 use Rattle.hsr_health.specs.declared.copy_reasons.Mark.{Mark}
 use Rattle.hsr_health.specs.declared.copy_reasons.Mark.TheVariants as the_mark
 use Rattle.hsr_health.specs.declared.counts.Counts.{Counts}
-use Rattle.hsr_health.specs.declared.counts.Marks.{Marks}
+use Rattle.hsr_health.specs.Marks.{Marked}
 use Rattle.hsr_health.specs.declared.reason.Reason.{Reason}
 use Rattle.hsr_health.specs.declared.reason.Spot.{Spot}
 use Rattle.hsr_health.specs.declared.reason.What.{What}
@@ -103,7 +103,7 @@ word_of the_mark.Size = the_word.Size
 word_of the_mark.Lane = the_word.Lane
 
 -- the same by what is known of a copy
-abbrev pub is_marked : Mark → ℕ → Marks → Bool
+abbrev pub is_marked : Mark → ℕ → Marked → Bool
 is_marked the_mark.Storm carried marks = nat_le 3 carried
 is_marked the_mark.Again carried marks = nat_le 1 carried && not (nat_le 3 carried)
 is_marked the_mark.Clash carried marks = marks.is_clash

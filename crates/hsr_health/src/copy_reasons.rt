@@ -11,7 +11,7 @@ ghost use Rattle.hsr_sightings.specs.Ring as the_ring;
 ghost use Rattle.hsr_sightings.specs.Fields as the_sighting;
 ghost use Rattle.hsr_sightings.specs.Read.{AreOvertaken, AreSightings, TellsEach};
 
-use crate::counts::Marks;
+use crate::marks::Marks;
 use crate::reason::{Reason, Spot, What, Word, put_reason, what_in};
 use hsr_frame::NoMemory;
 use hsr_frame_groups::Caught;
@@ -40,10 +40,10 @@ fn is_such(mark: Mark, carried: u32, marks: Marks) -> bool
     match mark {
         Mark::Storm => carried >= STORM,
         Mark::Again => carried > 0 && carried < STORM,
-        Mark::Clash => marks.is_clash,
-        Mark::Late => marks.is_late,
-        Mark::Size => marks.is_wrong_size,
-        Mark::Lane => marks.is_wrong_lane,
+        Mark::Clash => marks.is_clash(),
+        Mark::Late => marks.is_late(),
+        Mark::Size => marks.is_wrong_size(),
+        Mark::Lane => marks.is_wrong_lane(),
     }
 }
 

@@ -2,19 +2,16 @@
 ghost use Rattle.std.specs.Prelude.{◌≡◌, ◌++◌, ℕ, Bool, List, filter_map, length, option_to_list, reverse, slice_get, slice_index, IfOk, OnOk, Some};
 ghost use Rattle.hsr_frame.specs.Address.{is_group};
 ghost use Rattle.hsr_frame_groups.specs.Frames.{CaughtFields};
-ghost use Rattle.hsr_health.specs.Counted.{AreCounted, AreFated, AreOfSources, AreSkewed, AreSources, HaveNoFates, changed, counts_with, fates_with, mark_by, mark_of, more_if, no_counts, told_by, with_fate, with_skew};
+ghost use Rattle.hsr_health.specs.Counted.{AreCounted, AreFated, AreOfSources, AreSkewed, AreSources, HaveNoFates, changed, counts_with, fates_with, mark_of, more_if, no_counts, told_by, with_fate, with_skew};
 ghost use Rattle.hsr_spread.specs.Spreads.{AreSpreads, AreTold, many_of};
 ghost use Rattle.hsr_spread.specs.declared.spread.Told as the_told;
 ghost use Rattle.hsr_health.specs.declared.counts.Counts as the_counts;
-ghost use Rattle.hsr_sightings.specs.Copies.{is_clash, is_late};
-ghost use Rattle.hsr_sightings.specs.Frames.{begins};
 ghost use Rattle.hsr_sightings.specs.Read.{AreSightings, TellsEach};
 ghost use Rattle.hsr_sightings.specs.Ring as the_ring;
 ghost use Rattle.hsr_sightings.specs.Seen.{fate_of};
-ghost use Rattle.hsr_taps.specs.Tallies.{is_at};
 
+use crate::marks::Marks;
 use hsr_frame::NoMemory;
-use hsr_frame_copies::has_right_size;
 use hsr_frame_groups::Caught;
 use hsr_sightings::{Fate, Ring, Sighting, fate_of, skew_of};
 use hsr_spread::{Amounts, Spread, Told};
@@ -66,16 +63,6 @@ pub struct Counts {
     pub unreadable: u64,
 }
 
-/// Of a copy what is counted.
-#[derive(Clone, Copy)]
-pub(crate) struct Marks {
-    pub(crate) begins: bool,
-    pub(crate) is_clash: bool,
-    pub(crate) is_late: bool,
-    pub(crate) is_wrong_size: bool,
-    pub(crate) is_wrong_lane: bool,
-}
-
 /// One more, if it is so.
 pub(crate) fn more_if(count: u64, is_so: bool) -> u64
     ensures { result ≡ more_if count is_so }
@@ -91,65 +78,23 @@ pub(crate) fn more_if(count: u64, is_so: bool) -> u64
 fn with(counts: Counts, marks: Marks, number: u16) -> Counts
     ensures { result ≡ counts_with counts marks number }
 {
-    let first = if marks.begins && counts.frames == 0 {
+    let begins = marks.begins();
+    let first = if begins && counts.frames == 0 {
         number
     } else {
         counts.first
     };
-    let last = if marks.begins { number } else { counts.last };
+    let last = if begins { number } else { counts.last };
     Counts {
-        frames: more_if(counts.frames, marks.begins),
+        frames: more_if(counts.frames, begins),
         first,
         last,
-        clashes: more_if(counts.clashes, marks.is_clash),
-        late: more_if(counts.late, marks.is_late),
-        size: more_if(counts.size, marks.is_wrong_size),
-        lane: more_if(counts.lane, marks.is_wrong_lane),
+        clashes: more_if(counts.clashes, marks.is_clash()),
+        late: more_if(counts.late, marks.is_late()),
+        size: more_if(counts.size, marks.is_wrong_size()),
+        lane: more_if(counts.lane, marks.is_wrong_lane()),
         ..counts
     }
-}
-
-/// What is counted of a copy, by whether it begins a frame, clashes and is late.
-fn mark_by(
-    ring: &Ring<'_>,
-    caught: &Caught<'_>,
-    begins: bool,
-    is_clash: bool,
-    is_late: bool,
-    is_by_lane: &[bool],
-) -> Marks
-    ensures { result ≡ mark_by (is_at is_by_lane.now) ring.now begins is_clash is_late caught.now }
-{
-    let by_lane = is_by_lane.get(caught.direction()).copied().unwrap_or(false);
-    Marks {
-        begins,
-        is_clash,
-        is_late,
-        is_wrong_size: !has_right_size(&caught.copy()),
-        is_wrong_lane: !by_lane && caught.copy().path % 2 != ring.way_of(caught),
-    }
-}
-
-/// What is counted of each copy.
-pub(crate) fn marks_of(
-    alloc: Global,
-    ring: &Ring<'_>,
-    copies: &[Caught<'_>],
-    began: &[bool],
-    clashes: &[bool],
-    lates: &[bool],
-    is_by_lane: &[bool],
-) -> Result<Vec<Marks>, NoMemory>
-    requires began { TellsEach begins copies.now began.now }
-    requires clashes { TellsEach is_clash copies.now clashes.now }
-    requires lates { TellsEach (is_late ring.now) copies.now lates.now }
-    ensures { IfOk result (λ marks. TellsEach (mark_of (is_at is_by_lane.now) ring.now) copies.now marks.items) }
-{
-    let mut marks = Vec::new(alloc);
-    for i in 0..copies.len() {
-        marks.push(mark_by(ring, &copies[i], began[i], clashes[i], lates[i], is_by_lane))?;
-    }
-    Ok(marks)
 }
 
 /// The source of a copy.

@@ -12,7 +12,8 @@ ghost use Rattle.hsr_sightings.specs.Seen.{fate_of};
 ghost use Rattle.hsr_sightings.specs.Sightings.{sees_both_ways};
 
 use crate::broken::came_by;
-use crate::counts::{Marks, more_if};
+use crate::counts::more_if;
+use crate::marks::Marks;
 use hsr_frame::NoMemory;
 use hsr_frame_groups::Caught;
 use hsr_sightings::{Fate, Overtaken, Ring, Sighting, fate_of};
@@ -76,7 +77,7 @@ fn put_copy(all: &mut Vec<DirectionNumbers>, caught: &Caught<'_>, carried: u32, 
 {
     let direction = direction_of(caught);
     if direction < all.len() {
-        all[direction] = with(all[direction], carried, marks.is_late);
+        all[direction] = with(all[direction], carried, marks.is_late());
     }
 }
 

@@ -2,6 +2,7 @@
 //!
 //! Its modules, in the order in which to read them:
 //! - `sources`: who sent frames
+//! - `marks`: what is counted of a copy
 //! - `counts`: what is counted of each source
 //! - `directions`: what is told of points and of directions
 //! - `ledger`: the numbers of sources: gaps and restarts
@@ -45,6 +46,7 @@ mod kinds;
 mod known;
 mod ledger;
 mod load;
+mod marks;
 mod measured;
 mod order;
 mod point_reasons;

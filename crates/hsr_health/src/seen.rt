@@ -6,8 +6,8 @@ ghost use Rattle.hsr_sightings.specs.Copies.{carried_before};
 ghost use Rattle.hsr_sightings.specs.Read.{AreRead, AreSightings, HasPlaces, HasWays, TellsEach};
 ghost use Rattle.hsr_taps.specs.Directions.{interface_of};
 
-use crate::counts::{Marks, marks_of};
 use crate::framed::Framed;
+use crate::marks::{Marks, marks_of};
 use hsr_frame::NoMemory;
 use hsr_frame_groups::Caught;
 use hsr_sightings::{Overtaken, Ring, Sightings, lates_of, sightings_of};

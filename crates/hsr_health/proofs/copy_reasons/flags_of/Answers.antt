@@ -1,6 +1,6 @@
-use Rattle.std.proofs.Common.{◌+◌, ◌∙◌, ap, arith, length}
+use Rattle.std.proofs.Common.{◌+◌, ◌∙◌, ap, arith, length, refl}
 use Rattle.std.proofs.lemmas.List.{length_push}
-use Rattle.std.proofs.lemmas.Option.{slice_get-get_or}
+use Rattle.std.proofs.lemmas.Option.{slice_get-get_or, slice_get_read}
 use Rattle.hsr_health.proofs.Flagging.{flags_are, flags_more}
 use Rattle.hsr_health.proofs.copy_reasons.flags_of.Goals as goal
 
@@ -12,7 +12,7 @@ loop-i-preserved c =
     record {
       long = ap length c.in_ok-push.ensures.items ∙ length_push c.loop-i.flags.items _ ∙ ap (λ n. n + 1) c.loop-i.invariant.long;
       each = flags_more c.args.mark carried marks c.loop-i.flags.items _ i _ _ _ c.loop-i.invariant.long c.in_ok-push.ensures.items (slice_get-get_or carried i 0 (omega arith))
-          (slice_get-get_or marks i _ (omega (arith, c.requires))) c.is_such.ensures c.loop-i.invariant.each;
+          (slice_get_read marks _ i c.index-marks-i.result refl (omega (arith, c.requires)) c.index-marks-i.is) c.is_such.ensures c.loop-i.invariant.each;
     }
 
 pub returns : goal.returns

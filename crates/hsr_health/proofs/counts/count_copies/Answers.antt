@@ -15,7 +15,7 @@ loop-i-preserved c =
       long = c.count_copy.ensures.long ∙ c.loop-i.invariant.long;
       counts = λ is_by_lane ring macs told sources none.
           counts_step is_by_lane ring copies macs of_copy i (slice_index of_copy i) c.index-copies-i.result _ c.loop-i.counts.items _ here sources (slice_get-get_or of_copy i 0 (omega arith))
-          (told_is _ copies c.args.marks.now i c.index-copies-i.result _ told here (omega arith)) c.count_copy.ensures.counts (c.loop-i.invariant.counts is_by_lane ring macs told sources none);
+          (c.index-marks-i.is ∙ told_is _ copies c.args.marks.now i c.index-copies-i.result c.index-marks-i.result told here (omega arith)) c.count_copy.ensures.counts (c.loop-i.invariant.counts is_by_lane ring macs told sources none);
     }
 
 pub returns-clause-counts : goal.returns-clause-counts

@@ -15,7 +15,7 @@ loop-i-preserved c =
       long = c.put_copy.ensures.long ∙ c.loop-i.invariant.long;
       all = λ is_by_lane ring carries marks none.
           directed_step is_by_lane ring copies i _ _ c.index-copies-i.result c.loop-i.all.items _ here (told_is carried_before copies c.args.carried.now i c.index-copies-i.result _ carries here (omega arith))
-          (told_is (mark_of is_by_lane ring) copies c.args.marks.now i c.index-copies-i.result _ marks here (omega arith)) c.put_copy.ensures.all (c.loop-i.invariant.all is_by_lane ring carries marks none);
+          (c.index-marks-i.is ∙ told_is (mark_of is_by_lane ring) copies c.args.marks.now i c.index-copies-i.result c.index-marks-i.result marks here (omega arith)) c.put_copy.ensures.all (c.loop-i.invariant.all is_by_lane ring carries marks none);
     }
 
 pub returns-clause-all : goal.returns-clause-all

@@ -3,7 +3,7 @@ use Rattle.std.specs.Prelude.{slice_get}
 use Rattle.hsr_frame_groups.specs.Frames.{CaughtFields, past_of}
 use Rattle.hsr_health.specs.Counted.{mark_of}
 use Rattle.hsr_taps.specs.Tallies.{is_at}
-use Rattle.hsr_health.proofs.counts.marks_of.Given as goal
+use Rattle.hsr_health.proofs.marks.marks_of.Given as goal
 
 -- of each copy so far what is counted
 abbrev pub invariant-loop-i : goal.invariant-loop-i

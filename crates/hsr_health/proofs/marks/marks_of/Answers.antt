@@ -6,7 +6,7 @@ use Rattle.hsr_sightings.specs.Copies.{is_clash, is_late}
 use Rattle.hsr_sightings.specs.Frames.{begins}
 use Rattle.hsr_sightings.proofs.Counting.{long_more, told_more}
 use Rattle.hsr_taps.specs.Tallies.{is_at}
-use Rattle.hsr_health.proofs.counts.marks_of.Goals as goal
+use Rattle.hsr_health.proofs.marks.marks_of.Goals as goal
 
 pub loop-i-preserved : goal.loop-i-preserved
 loop-i-preserved c =
