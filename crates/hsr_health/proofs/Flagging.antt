@@ -66,11 +66,14 @@ missing [] i below none = omega (arith, below)
 missing (c ∷ copies) zero below none = absurd cc
 missing (c ∷ copies) (suc i) below none = missing copies i (omega (arith, below)) none
 
-count_to : (such : List CaughtFields → CaughtFields → Bool) (copies : List CaughtFields) (flags : List Bool) → TellsEach such copies flags → (i : ℕ) → i ≤ length copies
-    → count_by (λ b. b) (take i flags) ≡ count_copies such (past_of copies i)
-count_to such copies flags told zero le = refl
-count_to such copies flags told (suc i) le = by_copy (count_to such copies flags told i (omega (arith, le))) (slice_get copies i) refl
+count_to : {X : Type 0} (test : X → Bool) (tell : List CaughtFields → CaughtFields → X) (copies : List CaughtFields) (told : List X) → TellsEach tell copies told → (i : ℕ) → i ≤ length copies
+    → count_by test (take i told) ≡ count_copies (λ past c. test (tell past c)) (past_of copies i)
+count_to test tell copies told tells zero le = refl
+count_to test tell copies told tells (suc i) le = by_copy (count_to test tell copies told tells i (omega (arith, le))) (slice_get copies i) refl
   where
+    such : List CaughtFields → CaughtFields → Bool
+    such past c = test (tell past c)
+
     next : suc i ≡ i + 1
     next = omega arith
 
@@ -78,20 +81,25 @@ count_to such copies flags told (suc i) le = by_copy (count_to such copies flags
     more n true = refl
     more n false = omega arith
 
-    by_copy : count_by (λ b. b) (take i flags) ≡ count_copies such (past_of copies i) → (o : Option CaughtFields) → slice_get copies i ≡ o
-        → count_by (λ b. b) (take (suc i) flags) ≡ count_copies such (past_of copies (suc i))
+    by_copy : count_by test (take i told) ≡ count_copies such (past_of copies i) → (o : Option CaughtFields) → slice_get copies i ≡ o
+        → count_by test (take (suc i) told) ≡ count_copies such (past_of copies (suc i))
     by_copy rest None none = absurd (missing copies i (omega (arith, le)) none)
     by_copy rest (Some c) here =
-        ap (λ n. count_by (λ b. b) (take n flags)) next ∙ count_push (λ b. b) flags i (such (past_of copies i) c) (told.each i c here)
+        ap (λ n. count_by test (take n told)) next ∙ count_push test told i (tell (past_of copies i) c) (tells.each i c here)
         ∙ ap (λ n. n + cond (such (past_of copies i) c) 1 0) rest ∙ more (count_copies such (past_of copies i)) (such (past_of copies i) c)
         ∙ sym (ap (count_copies such) (past_more copies i c here)) ∙ ap (λ n. count_copies such (past_of copies n)) (sym next)
 
 whole : (copies : List CaughtFields) → past_of copies (length copies) ≡ reverse copies
 whole copies = ap reverse (take_all (length copies) copies (omega arith))
 
-pub count_is : (such : List CaughtFields → CaughtFields → Bool) (copies : List CaughtFields) (flags : List Bool) → TellsEach such copies flags → count_by (λ b. b) flags ≡ count_copies such (reverse copies)
-count_is such copies flags told =
-    ap (count_by (λ b. b)) (sym (take_all (length copies) flags (omega (arith, told.long)))) ∙ count_to such copies flags told (length copies) (omega arith) ∙ ap (count_copies such) (whole copies)
+pub count_told : {X : Type 0} (test : X → Bool) (tell : List CaughtFields → CaughtFields → X) (copies : List CaughtFields) (told : List X) → TellsEach tell copies told
+    → count_by test told ≡ count_copies (λ past c. test (tell past c)) (reverse copies)
+count_told test tell copies told tells =
+    ap (count_by test) (sym (take_all (length copies) told (omega (arith, tells.long)))) ∙ count_to test tell copies told tells (length copies) (omega arith)
+    ∙ ap (count_copies (λ past c. test (tell past c))) (whole copies)
+
+count_is : (such : List CaughtFields → CaughtFields → Bool) (copies : List CaughtFields) (flags : List Bool) → TellsEach such copies flags → count_by (λ b. b) flags ≡ count_copies such (reverse copies)
+count_is such copies flags told = count_told (λ b. b) such copies flags told
 
 -- ---- the first
 

@@ -4,7 +4,7 @@ use Rattle.std.specs.Prelude.{nat_eq, nat_lt, option_to_list, slice_get, slice_i
 use Rattle.std.proofs.lemmas.Bool.{cases_lt}
 use Rattle.std.proofs.lemmas.Bool.Decides.{nat_tests}
 use Rattle.std.proofs.lemmas.List.{append-nil, length_push}
-use Rattle.std.proofs.lemmas.Option.{get_or_from_slice_get, same_Some, slice_get-get_or, slice_get_within}
+use Rattle.std.proofs.lemmas.Option.{same_Some, slice_get-get_or, slice_get_within}
 use Rattle.hsr_frame_groups.specs.Frames.{CaughtFields}
 use Rattle.hsr_sightings.specs.Copies.{is_clash}
 use Rattle.hsr_sightings.specs.Frames.{begins}
@@ -119,11 +119,6 @@ groups_small names groups are long few k group here =
     let there = slice_get-get_or names k [] (omega (arith, within, long)) in
     let below = slice_get_within names group (get_or names k []) ((are k group here).same ∙ there) in
     omega (arith, below, few)
-
-pub numbered_is : (began clashes : List Bool) (i : ℕ) (b clash d e is : Bool) → slice_get began i ≡ Some b → slice_get clashes i ≡ Some clash
-    → is ≡ get_or began i d && not (get_or clashes i e) → is ≡ b && not clash
-numbered_is began clashes i b clash d e is began_i clashes_i is_is =
-    is_is ∙ ap (λ x. x && not (get_or clashes i e)) (get_or_from_slice_get began i b d began_i) ∙ ap (λ x. b && not x) (get_or_from_slice_get clashes i clash e clashes_i)
 
 pub number_is : (of_copy groups : List ℕ) (i sender group : ℕ) (is : Bool) (c : CaughtFields) (own : Option Numbered) → sender ≡ slice_index of_copy i → group ≡ slice_index groups sender
     → own ≡ number_if i sender group is c → (past : List CaughtFields) → is ≡ begins past c && not (is_clash past c) → own ≡ numbered_at of_copy groups i past c

@@ -22,3 +22,4 @@ pub mod Capturing
 pub mod Measuring
 pub mod Living
 pub mod Composed
+pub mod Marking

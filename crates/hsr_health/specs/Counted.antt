@@ -57,6 +57,13 @@ mark_by is_by_lane ring began clashes late c = record {
 abbrev pub mark_of : (ℕ → Bool) → Ring → List CaughtFields → CaughtFields → Marked
 mark_of is_by_lane ring past c = mark_by is_by_lane ring (begins past c) (is_clash past c) (is_late ring past c) c
 
+-- the same, as long as it isn't known which copies are late
+abbrev pub mark_but_late : (ℕ → Bool) → Ring → List CaughtFields → CaughtFields → Marked
+mark_but_late is_by_lane ring past c = mark_by is_by_lane ring (begins past c) (is_clash past c) false c
+
+abbrev pub with_late : Bool → Marked → Marked
+with_late late m = record m { is_late = late }
+
 -- the number of the first frame, and of the last one
 abbrev pub number_or : Option CaughtFields → ℕ
 number_or None = 0

@@ -8,7 +8,7 @@ use Rattle.hsr_capture_reader.specs.Fields.{PacketFields}
 use Rattle.hsr_capture_reader.specs.declared.fields.Losses.{Losses}
 use Rattle.hsr_frame_groups.specs.Frames.{AreInTime, CaughtFields}
 use Rattle.hsr_health.specs.Broken.{AreRuns, runs_of}
-use Rattle.hsr_health.specs.Counted.{AreDirections, AreOfPoints as ArePoints, AreOfSources, AreSources, changed, mark_of, one_more}
+use Rattle.hsr_health.specs.Counted.{AreDirections, AreOfPoints as ArePoints, AreOfSources, AreSources, changed, mark_but_late, mark_of, one_more}
 use Rattle.hsr_heard.specs.Hearing.{AreHeard, those_of}
 use Rattle.hsr_heard.specs.Subjects.{AreAbouts}
 use Rattle.hsr_health.specs.Loads.{AreLoads, capped}
@@ -38,7 +38,7 @@ use Rattle.hsr_health.specs.declared.order.Facts.{Facts}
 use Rattle.hsr_health.specs.declared.reason.Reason.{Reason}
 use Rattle.hsr_health.specs.declared.sources.Sources.{Sources}
 use Rattle.hsr_packet_order.specs.Disorder.{disorder_of, moment_of}
-use Rattle.hsr_sightings.specs.Copies.{carried_before, count_copies, crowd, is_clash}
+use Rattle.hsr_sightings.specs.Copies.{carried_before, count_copies, crowd}
 use Rattle.hsr_sightings.specs.Frames.{begins}
 use Rattle.hsr_sightings.specs.Read.{AreNeeded, AreOvertaken, AreRead, AreSightings, HasPlaces, HasWays, HaveOwnNumbers, TellsEach, most_at}
 use Rattle.hsr_sightings.specs.Ring.{Ring}
@@ -175,16 +175,14 @@ pub record AreCaught (ring : Ring) (copies : List CaughtFields) : Type 0 where
   pub ways : HasWays ring
 
 -- what copies tell of one another as copies of frames
-pub record AreFramed (copies : List CaughtFields) (framed : Framed) : Type 0 where
+pub record AreFramed (ring : Ring) (copies : List CaughtFields) (taps : List Taps) (framed : Framed) : Type 0 where
   pub read : AreRead copies framed.firsts.items
-  pub began : TellsEach begins copies framed.began.items
   pub carried : TellsEach carried_before copies framed.carried.items
-  pub clashes : TellsEach is_clash copies framed.clashes.items
   pub overtaken : AreOvertaken copies framed.overtaken.items
+  pub marks : TellsEach (mark_but_late (is_at (lanes_of taps)) ring) copies framed.marks.items
 
 -- what copies tell of one another
 pub record IsSeen (ring : Ring) (copies : List CaughtFields) (taps : List Taps) (seen : Seen) : Type 0 where
-  pub began : TellsEach begins copies seen.began.items
   pub carried : TellsEach carried_before copies seen.carried.items
   pub sightings : AreSightings ring copies seen.sightings.all.items seen.sightings.of_copy.items
   pub overtaken : AreOvertaken copies seen.overtaken.items
@@ -321,7 +319,7 @@ health_in traffic findings settled = record {
   malformed = settled.malformed;
   needed = greatest findings.measured.needed.items;
   crowd = findings.measured.crowd;
-  frames = count_by (λ b. b) findings.seen.began.items;
+  frames = count_by (λ m. m.begins) findings.seen.marks.items;
   twice = twice_among findings.known.counts.items;
   judged = judged_among findings.known.counts.items;
   absent = settled.absent;

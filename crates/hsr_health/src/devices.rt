@@ -1,7 +1,10 @@
 //! What supervision and the numbers of frames tell of sources, whatever came of their frames.
-ghost use Rattle.std.specs.Prelude.{◌≡◌, ◌≤◌, length, IfOk};
+ghost use Rattle.std.specs.Prelude.{◌≡◌, ◌<◌, ◌≤◌, ◌^◌, List, length, IfOk};
 ghost use Rattle.hsr_health.specs.Counted.{AreSources, changed};
 ghost use Rattle.hsr_health.specs.Whole.{AreAlike, AreAsMany, AreCaught, AreFramed, AreMore, IsDevices, life_put, lives_of, one_life, one_unreadable, unreadable_of};
+ghost use Rattle.hsr_heard.specs.Hearing.{AreHeard};
+ghost use Rattle.hsr_sightings.specs.Read.{AreRead};
+ghost use Rattle.hsr_taps.specs.declared.direction.Taps as the_taps;
 
 use crate::counts::{Counts, no_counts, source_of};
 use crate::framed::Framed;
@@ -10,7 +13,7 @@ use crate::sources::Sources;
 use hsr_frame::NoMemory;
 use hsr_frame_groups::Caught;
 use hsr_heard::{Abouts, Heard, Hearing, abouts_of, hearing_of};
-use hsr_sightings::Ring;
+use hsr_sightings::{Ring, begins_of};
 use std::alloc::Global;
 
 /// With one more supervision frame that can be read.
@@ -97,6 +100,22 @@ pub(crate) struct Devices {
     pub(crate) lives: Ledger,
 }
 
+/// What the supervision frames among copies say. The list of copies that begin a frame is made for this alone, and goes here.
+fn heard_of(
+    alloc: Global,
+    ring: &Ring<'_>,
+    copies: &[Caught<'_>],
+    firsts: &[u32],
+) -> Result<Hearing, NoMemory>
+    requires few { length copies.now < 2 ^ 32 }
+    requires read { AreRead copies.now firsts.now }
+    ensures { IfOk result (λ hearing. AreHeard ring.now copies.now hearing.heard.items hearing.unread.items) }
+{
+    let began = begins_of(alloc, copies, firsts)?;
+    let hearing = hearing_of(alloc, ring, copies, began.as_slice())?;
+    Ok(hearing)
+}
+
 /// What supervision and the numbers of frames tell of sources. It comes before the frames at points are told: their list and that of the numbers
 /// take half as much room as all copies.
 pub(crate) fn devices_of(
@@ -109,14 +128,14 @@ pub(crate) fn devices_of(
     requires caught { AreCaught ring.now copies.now }
     requires sources { AreSources copies.now sources.now.macs.items sources.now.of_copy.items }
     requires few { length sources.now.macs.items ≤ 1024 }
-    requires framed { AreFramed copies.now framed.now }
+    requires framed { (taps : List the_taps.Taps) × AreFramed ring.now copies.now taps framed.now }
     ensures { IfOk result (IsDevices ring.now copies.now sources.now) }
 {
     let many = sources.macs.len();
     let of_copy = sources.of_copy.as_slice();
-    let began = framed.began.as_slice();
+    let firsts = framed.firsts.as_slice();
     let mut counted = no_counts(alloc, many)?;
-    let Hearing { heard, unread } = hearing_of(alloc, ring, copies, began)?;
+    let Hearing { heard, unread } = heard_of(alloc, ring, copies, firsts)?;
     count_lives(&mut counted, heard.as_slice(), of_copy);
     count_unread(&mut counted, unread.as_slice(), of_copy);
     let said = life_runs(alloc, heard.as_slice(), of_copy)?;
@@ -126,8 +145,8 @@ pub(crate) fn devices_of(
     let told = abouts.all.as_slice();
     let groups = groups_of(alloc, macs, told)?;
     let of_source = groups.as_slice();
-    let clashes = framed.clashes.as_slice();
-    let placed = frame_runs(alloc, copies, of_copy, of_source, began, clashes)?;
+    let marks = framed.marks.as_slice();
+    let placed = frame_runs(alloc, copies, of_copy, of_source, marks)?;
     let ledger = ledger_of(alloc, placed, many)?;
     Ok(Devices {
         counted,

@@ -39,9 +39,9 @@ pub(crate) fn findings_of(
     let Some(sources) = sources_of(alloc, copies)? else {
         return Ok(None);
     };
-    let framed = framed_of(alloc, copies)?;
+    let framed = framed_of(alloc, ring, copies, taps)?;
     let devices = devices_of(alloc, ring, copies, &sources, &framed)?;
-    let seen = seen_of(alloc, ring, copies, taps, framed)?;
+    let seen = seen_of(alloc, ring, copies, framed)?;
     let known = known_of(alloc, ring, copies, &sources, &seen, devices)?;
     let measured = measured_of(alloc, ring, copies, &sources, &seen, many)?;
     Ok(Some(Findings {

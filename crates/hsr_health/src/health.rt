@@ -6,7 +6,6 @@ ghost use Rattle.hsr_health.specs.Whole.{HasTooMany, IsBounded, IsFaultOf, IsHea
 
 use crate::asked::Asked;
 use crate::broken::Span;
-use crate::copy_reasons::count_of;
 use crate::counts::Counts;
 use crate::directions::{DirectionNumbers, PointNumbers};
 use crate::findings::{Findings, findings_of};
@@ -14,6 +13,7 @@ use crate::kinds::{MalformedKind, UntaggedKind, VlanKind};
 use crate::known::Known;
 use crate::ledger::{GroupNumbers, Ledger};
 use crate::load::Load;
+use crate::marks::begun_among;
 use crate::measured::{Measured, greatest};
 use crate::reason::Reason;
 use crate::settled::{Settled, settled_of};
@@ -126,7 +126,7 @@ fn health_by<'a>(traffic: Traffic<'a>, findings: Findings, settled: Settled) -> 
     ensures { result ≡ health_in traffic.entry findings settled }
 {
     let needed = greatest(findings.measured.needed.as_slice());
-    let frames = count_of(findings.seen.began.as_slice());
+    let frames = begun_among(findings.seen.marks.as_slice()) as u64;
     let twice = twice_among(findings.known.counts.as_slice());
     let judged = judged_among(findings.known.counts.as_slice());
     let Traffic {

@@ -1,10 +1,12 @@
 //! Packets that are no copies, by kind, and frames by VLAN.
-ghost use Rattle.std.specs.Prelude.{◌≡◌, ◌+◌, ◌<◌, ◌++◌, filter_map, length, map, option_to_list, reverse, IfOk, IfSome, OnOk};
+ghost use Rattle.std.specs.Prelude.{◌≡◌, ◌+◌, ◌<◌, ◌++◌, ℕ, Bool, filter_map, length, map, option_to_list, reverse, IfOk, IfSome, OnOk};
+ghost use Rattle.hsr_health.specs.Counted.{mark_of};
 ghost use Rattle.hsr_health.specs.Kinds.{AreMalformed, AreSmall, AreUntagged, AreVlanKeys, AreVlans, HaveInterfaces, IsSmall, is_link_local, local_rank, malformed_by, malformed_of, rank_of, untagged_by, untagged_number, untagged_of, vlan_by, vlan_if, vlan_rank};
-ghost use Rattle.hsr_sightings.specs.Frames.{begins};
 ghost use Rattle.hsr_sightings.specs.Read.{TellsEach};
+ghost use Rattle.hsr_sightings.specs.Ring as the_ring;
 
 use crate::by_key::{KeyCount, counts_by_key};
+use crate::marks::Marks;
 use hsr_frame::{FrameFault, Mac, NoMemory};
 use hsr_frame_copies::NoCopy;
 use hsr_frame_groups::Caught;
@@ -236,13 +238,13 @@ fn vlan_key(caught: &Caught<'_>, begins: bool) -> Option<u64>
 }
 
 /// The numbers of the VLAN tags of all frames.
-fn vlan_keys(alloc: Global, copies: &[Caught<'_>], began: &[bool]) -> Result<Vec<u64>, NoMemory>
-    requires { TellsEach begins copies.now began.now }
+fn vlan_keys(alloc: Global, copies: &[Caught<'_>], marks: &[Marks]) -> Result<Vec<u64>, NoMemory>
+    requires { (is_by_lane : ℕ → Bool) × (ring : the_ring.Ring) × TellsEach (mark_of is_by_lane ring) copies.now marks.now }
     ensures { IfOk result (λ keys. AreVlanKeys copies.now (length copies.now) keys.items) }
 {
     let mut keys = Vec::new(alloc);
     for i in 0..copies.len() {
-        put_key(&mut keys, vlan_key(&copies[i], began[i]))?;
+        put_key(&mut keys, vlan_key(&copies[i], marks[i].begins()))?;
     }
     Ok(keys)
 }
@@ -277,12 +279,12 @@ fn vlan_kinds(alloc: Global, counts: &[KeyCount]) -> Result<Vec<VlanKind>, NoMem
 pub(crate) fn vlans_of(
     alloc: Global,
     copies: &[Caught<'_>],
-    began: &[bool],
+    marks: &[Marks],
 ) -> Result<Vec<VlanKind>, NoMemory>
-    requires { TellsEach begins copies.now began.now }
+    requires { (is_by_lane : ℕ → Bool) × (ring : the_ring.Ring) × TellsEach (mark_of is_by_lane ring) copies.now marks.now }
     ensures { IfOk result (λ kinds. AreVlans (reverse copies.now) kinds.items) }
 {
-    let mut keys = vlan_keys(alloc, copies, began)?;
+    let mut keys = vlan_keys(alloc, copies, marks)?;
     let counts = counts_by_key(alloc, &mut keys)?;
     let kinds = vlan_kinds(alloc, counts.as_slice())?;
     Ok(kinds)

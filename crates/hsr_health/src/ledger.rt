@@ -1,15 +1,15 @@
 //! The numbers of sources: gaps and restarts. A RedBox and its stations count together, so they are one group.
-ghost use Rattle.std.specs.Prelude.{◌≡◌, ◌<◌, ◌≤◌, ◌^◌, ◌++◌, ◌&&◌, ℕ, List, filter_map, find, length, map, not, option_to_list, slice_get, slice_index, IfOk, OnOk, Some};
+ghost use Rattle.std.specs.Prelude.{◌≡◌, ◌<◌, ◌≤◌, ◌^◌, ◌++◌, ◌&&◌, ℕ, Bool, List, filter_map, find, length, map, not, option_to_list, slice_get, slice_index, IfOk, OnOk, Some};
 ghost use Rattle.hsr_frame.specs.Address.{is_same_address};
-ghost use Rattle.hsr_health.specs.Counted.{changed};
+ghost use Rattle.hsr_health.specs.Counted.{changed, mark_but_late};
 ghost use Rattle.hsr_heard.specs.Hearing.{those_of};
 ghost use Rattle.hsr_health.specs.Numbering.{AreByRun, AreGroups, IsFirstSame, IsLedger, group_name, life_number, number_if, numbered_at, sums_by, with_gap, with_gaps, with_restart, with_restarts};
 ghost use Rattle.hsr_number_runs.specs.Runs.{AreRunsOf};
 ghost use Rattle.hsr_number_runs.specs.declared.run.Numbered.{Numbered};
-ghost use Rattle.hsr_sightings.specs.Copies.{is_clash};
-ghost use Rattle.hsr_sightings.specs.Frames.{begins};
 ghost use Rattle.hsr_sightings.specs.Read.{TellsEach};
+ghost use Rattle.hsr_sightings.specs.Ring as the_ring;
 
+use crate::marks::{Marks, begun_among};
 use hsr_frame::{Mac, NoMemory};
 use hsr_frame_groups::Caught;
 use hsr_heard::{About, Heard};
@@ -118,10 +118,10 @@ fn group_of(groups: &[usize], sender: u32) -> u32
 }
 
 /// Whether a copy has a number: it begins a frame, and is no clash.
-fn is_numbered(begins: bool, is_clash: bool) -> bool
-    ensures { result ≡ begins && not is_clash }
+fn is_numbered(marks: Marks) -> bool
+    ensures { result ≡ marks.begins && not marks.is_clash }
 {
-    begins && !is_clash
+    marks.begins() && !marks.is_clash()
 }
 
 /// The number of a copy, if it has one.
@@ -168,22 +168,19 @@ pub(crate) fn frame_runs(
     copies: &[Caught<'_>],
     of_copy: &[u16],
     groups: &[usize],
-    began: &[bool],
-    clashes: &[bool],
+    marks: &[Marks],
 ) -> Result<Runs, NoMemory>
     requires few { length copies.now < 2 ^ 31 }
     requires small { (k group : ℕ) → slice_get groups.now k ≡ Some group → group < 2 ^ 32 }
-    requires began { TellsEach begins copies.now began.now }
-    requires clashes { TellsEach is_clash copies.now clashes.now }
+    requires marks { (is_by_lane : ℕ → Bool) × (ring : the_ring.Ring) × TellsEach (mark_but_late is_by_lane ring) copies.now marks.now }
     ensures { IfOk result (AreRunsOf (those_of (numbered_at of_copy.now groups.now) copies.now)) }
 {
     // As much room is taken as there are frames, of which only clashes have no number.
-    let many = began.iter().filter(|is_first| **is_first).count();
-    let mut so_far = RunsSoFar::with_capacity(alloc, many)?;
+    let mut so_far = RunsSoFar::with_capacity(alloc, begun_among(marks))?;
     for i in 0..copies.len() {
         let sender = sender_of(of_copy, i as u32);
         let group = group_of(groups, sender);
-        let has_number = is_numbered(began[i], clashes[i]);
+        let has_number = is_numbered(marks[i]);
         let number = number_if(&copies[i], has_number, i as u32, sender, group);
         so_far = put_number(alloc, so_far, number)?;
     }

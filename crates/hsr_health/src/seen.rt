@@ -1,44 +1,20 @@
 //! What copies tell of one another.
-ghost use Rattle.std.specs.Prelude.{◌≡◌, map, slice_get, IfOk};
-ghost use Rattle.std.specs.List.{range_with_len};
-ghost use Rattle.hsr_health.specs.Whole.{AreCaught, AreFramed, IsSeen, is_lane};
+ghost use Rattle.std.specs.Prelude.{List, IfOk};
+ghost use Rattle.hsr_health.specs.Whole.{AreCaught, AreFramed, IsSeen};
 ghost use Rattle.hsr_sightings.specs.Copies.{carried_before};
 ghost use Rattle.hsr_sightings.specs.Read.{AreRead, AreSightings, HasPlaces, HasWays, TellsEach};
-ghost use Rattle.hsr_taps.specs.Directions.{interface_of};
+ghost use Rattle.hsr_taps.specs.declared.direction.Taps as the_taps;
 
 use crate::framed::Framed;
-use crate::marks::{Marks, marks_of};
+use crate::marks::{Marks, with_lates};
 use hsr_frame::NoMemory;
 use hsr_frame_groups::Caught;
 use hsr_sightings::{Overtaken, Ring, Sightings, lates_of, sightings_of};
-use hsr_taps::{DIRECTIONS, Taps, interface_of};
 use std::alloc::Global;
-
-/// Whether the copies of a direction are told apart by lane.
-fn is_lane(taps: &[Taps], direction: usize) -> bool
-    ensures { result ≡ is_lane (slice_get taps.now (interface_of direction)) }
-{
-    match taps.get(interface_of(direction)) {
-        Some(Taps::Both) => true,
-        _ => false,
-    }
-}
-
-/// Of each direction whether its copies are told apart by lane.
-fn by_lane(alloc: Global, taps: &[Taps]) -> Result<Vec<bool>, NoMemory>
-    ensures { IfOk result (λ lanes. lanes.items ≡ map (λ d. is_lane (slice_get taps.now (interface_of d))) (range_with_len 0 320)) }
-{
-    let mut lanes = Vec::new(alloc);
-    for d in 0..DIRECTIONS {
-        lanes.push(is_lane(taps, d))?;
-    }
-    Ok(lanes)
-}
 
 /// What the copies tell of one another.
 #[derive(Drop)]
 pub(crate) struct Seen {
-    pub(crate) began: Vec<bool>,
     pub(crate) carried: Vec<u32>,
     pub(crate) sightings: Sightings,
     pub(crate) overtaken: Vec<Overtaken>,
@@ -68,36 +44,29 @@ pub(crate) fn seen_of(
     alloc: Global,
     ring: &Ring<'_>,
     copies: &[Caught<'_>],
-    taps: &[Taps],
     framed: Framed,
 ) -> Result<Seen, NoMemory>
     requires caught { AreCaught ring.now copies.now }
-    requires framed { AreFramed copies.now framed }
-    ensures { IfOk result (IsSeen ring.now copies.now taps.now) }
+    requires framed { (taps : List the_taps.Taps) × AreFramed ring.now copies.now taps framed }
+    ensures { IfOk result (λ seen. (taps : List the_taps.Taps) → AreFramed ring.now copies.now taps framed → IsSeen ring.now copies.now taps seen) }
 {
     let Framed {
         firsts,
-        began,
         carried,
-        clashes,
         overtaken,
+        marks,
     } = framed;
     let before = carried.as_slice();
     let sightings = sightings_by(alloc, ring, copies, firsts, before)?;
     let all = sightings.all.as_slice();
     let numbers = sightings.of_copy.as_slice();
     let lates = lates_of(alloc, copies, all, numbers)?;
-    let lanes = by_lane(alloc, taps)?;
-    let begun = began.as_slice();
-    let differs = clashes.as_slice();
     let is_late = lates.as_slice();
-    let is_by_lane = lanes.as_slice();
-    let marks = marks_of(alloc, ring, copies, begun, differs, is_late, is_by_lane)?;
+    let marked = with_lates(marks, is_late);
     Ok(Seen {
-        began,
         carried,
         sightings,
         overtaken,
-        marks,
+        marks: marked,
     })
 }

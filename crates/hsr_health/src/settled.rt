@@ -78,7 +78,7 @@ pub(crate) fn settled_of(
     };
     let told = all_reasons(alloc, ring, copies, findings, beside)?;
     let reasons = in_order(alloc, told.as_slice(), facts_of(copies, findings))?;
-    let vlans = vlans_of(alloc, copies, findings.seen.began.as_slice())?;
+    let vlans = vlans_of(alloc, copies, findings.seen.marks.as_slice())?;
     let untagged = untagged_of(alloc, strays)?;
     let malformed = malformed_of(alloc, strays)?;
     Ok(Settled {

@@ -1,15 +1,18 @@
 use Rattle.std.proofs.Common.{◌≡◌, ℕ, ◌<◌, ◌^◌, ◌∙◌, List, ap, arith, length, map, subst, sym, Some}
 use Rattle.std.specs.Prelude.{filter_map, slice_get}
 use Rattle.std.proofs.lemmas.List.{length-map}
+use Rattle.hsr_health.specs.Counted.{mark_but_late}
 use Rattle.hsr_health.specs.Loads.{capped}
 use Rattle.hsr_health.specs.declared.counts.Counts.{Counts}
 use Rattle.hsr_heard.specs.Hearing.{heard_at, those_of}
 use Rattle.hsr_heard.specs.Subjects.{AreAbouts}
 use Rattle.hsr_health.specs.Numbering.{AreGroups, IsLedger, group_name, life_number, numbered_at}
-use Rattle.hsr_health.specs.Whole.{lives_of, unreadable_of}
+use Rattle.hsr_health.specs.Whole.{lanes_of, lives_of, unreadable_of}
 use Rattle.hsr_health.proofs.Gapping.{groups_small}
 use Rattle.hsr_health.proofs.Measuring.{short_those}
+use Rattle.hsr_sightings.specs.Read.{AreRead, TellsEach}
 use Rattle.hsr_sightings.specs.Ring.{Ring}
+use Rattle.hsr_taps.specs.Tallies.{is_at}
 use Rattle.hsr_health.proofs.devices.devices_of.Goals as goal
 
 pub life_runs-requires : goal.life_runs-requires
@@ -20,6 +23,18 @@ life_runs-requires c =
       ap length c.in_ok-heard.ensures.read,
       short_those (heard_at c.args.ring.now) c.args.copies.now 0 c.args.copies.now,
       c.requires.caught.few,
+    )
+
+pub heard_of-requires-clause-read : goal.heard_of-requires-clause-read
+heard_of-requires-clause-read c = subst (AreRead c.args.copies.now) (sym c.as_slice-firsts.ensures.value) c.requires.framed.1.read
+
+pub frame_runs-requires-clause-marks : goal.frame_runs-requires-clause-marks
+frame_runs-requires-clause-marks c =
+    let lanes = is_at (lanes_of c.requires.framed.0) in
+    let ring = c.args.ring.now in (
+      lanes,
+      ring,
+      subst (TellsEach (mark_but_late lanes ring) c.args.copies.now) (sym c.as_slice-marks.ensures.value) c.requires.framed.1.marks,
     )
 
 pub frame_runs-requires-clause-small : goal.frame_runs-requires-clause-small

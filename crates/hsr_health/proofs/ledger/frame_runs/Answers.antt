@@ -1,8 +1,11 @@
-use Rattle.std.proofs.Common.{ap, arith, length, refl, subst}
+use Rattle.std.proofs.Common.{◌∙◌, ◌&&◌, not, ap, arith, length, refl, subst}
 use Rattle.std.proofs.lemmas.Option.{slice_get_read}
 use Rattle.hsr_frame_groups.specs.Frames.{past_of}
+use Rattle.hsr_health.specs.Counted.{mark_but_late}
+use Rattle.hsr_health.specs.Marks.{Marked}
 use Rattle.hsr_health.specs.Numbering.{numbered_at}
-use Rattle.hsr_health.proofs.Gapping.{number_is, numbered_is, one_more_at_most}
+use Rattle.hsr_health.proofs.Gapping.{number_is, one_more_at_most}
+use Rattle.hsr_health.proofs.Sourcing.{told_is}
 use Rattle.hsr_heard.proofs.Telling.{those_end, those_more}
 use Rattle.hsr_number_runs.specs.Runs.{AreRunsOf}
 use Rattle.hsr_health.proofs.ledger.frame_runs.Goals as goal
@@ -22,7 +25,8 @@ loop-i-preserved c =
     let here = slice_get_read copies _ i own refl (omega arith) c.index-copies-i.is in
     let before = c.loop-i.invariant in
     let number = c.number_if-number.result in
-    let has = numbered_is c.args.began.now c.args.clashes.now i _ _ _ _ _ (c.requires.began.each i own here) (c.requires.clashes.each i own here) c.is_numbered-has_number.ensures in (
+    let told = c.index-marks-i.is ∙ told_is (mark_but_late c.requires.marks.0 c.requires.marks.1) copies c.args.marks.now i own c.index-marks-i.result c.requires.marks.2 here (omega (arith, c.requires.marks.2.long)) in
+    let has = c.is_numbered-has_number.ensures ∙ ap (λ (m : Marked). m.begins && not m.is_clash) told in (
       one_more_at_most c.loop-i.so_far _ number i c.in_ok-so_far-2.ensures before.0,
       those_more (numbered_at of_copy groups) copies i own c.loop-i.so_far _ _ number here
           (number_is of_copy groups i _ _ _ own number c.sender_of-sender.ensures c.group_of-group.ensures c.number_if-number.ensures (past_of copies i) has)

@@ -1,8 +1,8 @@
 use Rattle.std.proofs.Common.{◌∙◌, ap, arith, false, get_or, refl, sym}
 use Rattle.std.proofs.lemmas.Option.{get_or_from_slice_get, same_Some, slice_get_read, slice_get_within}
 use Rattle.hsr_frame_groups.specs.Frames.{past_of}
-use Rattle.hsr_health.specs.Counted.{mark_by, mark_of}
-use Rattle.hsr_sightings.specs.Copies.{is_clash, is_late}
+use Rattle.hsr_health.specs.Counted.{mark_but_late, mark_by}
+use Rattle.hsr_sightings.specs.Copies.{is_clash}
 use Rattle.hsr_sightings.specs.Frames.{begins}
 use Rattle.hsr_sightings.proofs.Counting.{long_more, told_more}
 use Rattle.hsr_taps.specs.Tallies.{is_at}
@@ -17,16 +17,14 @@ loop-i-preserved c =
     let own = slice_get_read copies _ i c.index-copies-i.result refl (omega arith) c.index-copies-i.is in
     record {
       long = long_more c.loop-i.marks.items _ i _ c.loop-i.invariant.long c.in_ok-push.ensures.items;
-      each = told_more (λ k x. mark_of by_lane ring (past_of copies k) x) copies c.loop-i.marks.items _ i _ c.loop-i.invariant.long c.in_ok-push.ensures.items
+      each = told_more (λ k x. mark_but_late by_lane ring (past_of copies k) x) copies c.loop-i.marks.items _ i _ c.loop-i.invariant.long c.in_ok-push.ensures.items
           (λ d here.
           let past = past_of copies i in
           let began = get_or c.args.began.now i false in
           let clashes = get_or c.args.clashes.now i false in
-          let late = get_or c.args.lates.now i false in
-          c.mark_by.ensures ∙ ap (mark_by by_lane ring began clashes late) (same_Some _ d (sym own ∙ here))
-          ∙ ap (λ b. mark_by by_lane ring b clashes late d) (get_or_from_slice_get c.args.began.now i (begins past d) false (c.requires.began.each i d here))
-          ∙ ap (λ b. mark_by by_lane ring (begins past d) b late d) (get_or_from_slice_get c.args.clashes.now i (is_clash past d) false (c.requires.clashes.each i d here))
-          ∙ ap (λ b. mark_by by_lane ring (begins past d) (is_clash past d) b d) (get_or_from_slice_get c.args.lates.now i (is_late ring past d) false (c.requires.lates.each i d here))) c.loop-i.invariant.each;
+          c.mark_by.ensures ∙ ap (mark_by by_lane ring began clashes false) (same_Some _ d (sym own ∙ here))
+          ∙ ap (λ b. mark_by by_lane ring b clashes false d) (get_or_from_slice_get c.args.began.now i (begins past d) false (c.requires.began.each i d here))
+          ∙ ap (λ b. mark_by by_lane ring (begins past d) b false d) (get_or_from_slice_get c.args.clashes.now i (is_clash past d) false (c.requires.clashes.each i d here))) c.loop-i.invariant.each;
     }
 
 pub returns : goal.returns

@@ -1,12 +1,26 @@
 use Rattle.std.proofs.Common.{◌∙◌, ap, map, reverse, subst, sym}
 use Rattle.std.specs.List.{range_with_len}
 use Rattle.std.specs.Prelude.{filter}
+use Rattle.hsr_health.specs.Counted.{mark_of}
 use Rattle.hsr_health.specs.Kinds.{AreMalformed, AreUntagged, AreVlans}
 use Rattle.hsr_health.specs.Order.{in_order}
 use Rattle.hsr_health.specs.Told.{is_absent}
-use Rattle.hsr_health.specs.Whole.{AreFacts, AreFindings, is_asked}
+use Rattle.hsr_health.specs.Whole.{AreFacts, AreFindings, is_asked, lanes_of}
 use Rattle.hsr_health.proofs.Composed.{reasons_same}
+use Rattle.hsr_sightings.specs.Read.{TellsEach}
+use Rattle.hsr_taps.specs.Tallies.{is_at}
 use Rattle.hsr_health.proofs.settled.settled_of.Goals as goal
+
+pub vlans_of-requires : goal.vlans_of-requires
+vlans_of-requires c =
+    let lanes = is_at (lanes_of c.requires.findings.0) in
+    let ring = c.args.ring.now in
+    let marks = c.args.findings.now.seen.marks.items in (
+      lanes,
+      ring,
+      subst (λ l. TellsEach (mark_of lanes ring) c.as_slice-copies.result.now l) (sym c.as_slice-5.ensures.value)
+          (subst (λ l. TellsEach (mark_of lanes ring) l marks) (sym c.as_slice-copies.ensures.value) c.requires.findings.2.seen.marks),
+    )
 
 pub returns : goal.returns
 returns c = λ taps many found.
