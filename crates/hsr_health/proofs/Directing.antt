@@ -1,12 +1,13 @@
 -- What is told of each direction, one copy, one copy that was overtaken and one sighting after the other.
-use Rattle.std.proofs.Common.{◌≡◌, ℕ, zero, suc, ◌+◌, ◌<◌, ◌≤◌, ◌^◌, ◌&&◌, max, not, Bool, true, false, cond, List, [], ◌∷◌, ◌++◌, get_or, length, reverse, take, ◌⊎◌, inl, inr, refl, sym, ap, subst, ◌∙◌, arith, Option, Some, None}
+use Rattle.std.proofs.Common.{◌≡◌, ℕ, zero, suc, ◌+◌, ◌<◌, ◌≤◌, ◌^◌, ◌&&◌, not, Bool, true, false, cond, List, [], ◌∷◌, ◌++◌, get_or, length, reverse, take, ◌⊎◌, inl, inr, refl, sym, ap, subst, ◌∙◌, arith, Option, Some, None}
 use Rattle.std.specs.Prelude.{nat_eq, count_by, is_some, option_map, option_to_list, slice_get, slice_index, unwrap_or}
 use Rattle.std.proofs.lemmas.Bool.{eq-eqb, ne_eqb}
 use Rattle.std.proofs.lemmas.List.{length-reverse, take_all}
 use Rattle.std.proofs.lemmas.List.Sums.{sum_by-append, sum_by-cons}
 use Rattle.std.proofs.lemmas.Option.{same_Some, slice_get-get_or, slice_get_within}
 use Rattle.hsr_frame_groups.specs.Frames.{CaughtFields, past_of}
-use Rattle.hsr_sightings.specs.Copies.{carried_before, count_copies, is_again, is_late, is_overtaken, is_passed, most_of, top_before}
+use Rattle.hsr_sightings.specs.Copies.{carried_before, count_copies, is_again, is_late, is_overtaken, is_passed, times_before, top_before}
+use Rattle.hsr_sightings.specs.Again.{AreMost}
 use Rattle.hsr_sightings.specs.Read.{AreOvertaken, AreSightings, overtaken_at, overtaken_from}
 use Rattle.hsr_sightings.specs.Ring.{Ring, is_in}
 use Rattle.hsr_sightings.specs.Seen.{fate_of}
@@ -22,11 +23,12 @@ use Rattle.hsr_health.proofs.Pasts.{past_more}
 use Rattle.hsr_health.proofs.Sighted.{IsSeenAs, count_all, is_first}
 use Rattle.hsr_health.proofs.Sourcing.{changed_at, count_small}
 use Rattle.hsr_sightings.proofs.Gathering.{slice_get_push}
+use Rattle.hsr_sightings.proofs.Times.{at_least_same}
 
 -- ---- copies
 
 pub directed_step : (is_by_lane : ℕ → Bool) (ring : Ring) (copies : List CaughtFields) (i carried : ℕ) (marks : Marked) (c : CaughtFields) (old new : List DirectionNumbers) → slice_get copies i ≡ Some c
-    → carried ≡ carried_before (past_of copies i) c → marks ≡ mark_of is_by_lane ring (past_of copies i) c → new ≡ changed (direction_with carried marks.is_late) c.direction old
+    → carried ≡ times_before (past_of copies i) c → marks ≡ mark_of is_by_lane ring (past_of copies i) c → new ≡ changed (direction_with carried marks.is_late) c.direction old
     → AreDirected ring copies i old → AreDirected ring copies (i + 1) new
 directed_step is_by_lane ring copies i carried marks c old new here carried_is marks_are is are d own own_d =
     by_place (changed_at (direction_with carried marks.is_late) old c.direction d own (ap (λ l. slice_get l d) (sym is) ∙ own_d)) ∙ ap (directed ring d) (sym (past_more copies i c here))
@@ -35,20 +37,20 @@ directed_step is_by_lane ring copies i carried marks c old new here carried_is m
     past = past_of copies i
 
     with_one : DirectionNumbers
-    with_one = direction_with (carried_before past c) (is_late ring past c) (directed ring d past)
+    with_one = direction_with (times_before past c) (is_late ring past c) (directed ring d past)
 
     by_place : ((d ≡ c.direction) × ((x : DirectionNumbers) × (slice_get old d ≡ Some x) × (own ≡ direction_with carried marks.is_late x))) ⊎ ((c.direction ≡ d → ⊥) × (slice_get old d ≡ Some own))
         → own ≡ cond (is_in d c) with_one (directed ring d past)
     by_place (inl mine) =
         mine.1.2 ∙ ap (direction_with carried marks.is_late) (are d mine.1.0 mine.1.1) ∙ ap (λ n. direction_with n marks.is_late (directed ring d past)) carried_is
-        ∙ ap (λ (m : Marked). direction_with (carried_before past c) m.is_late (directed ring d past)) marks_are ∙ sym (ap (λ b. cond b with_one (directed ring d past)) (eq-eqb c.direction d (sym mine.0)))
+        ∙ ap (λ (m : Marked). direction_with (times_before past c) m.is_late (directed ring d past)) marks_are ∙ sym (ap (λ b. cond b with_one (directed ring d past)) (eq-eqb c.direction d (sym mine.0)))
     by_place (inr other) = are d own other.1 ∙ sym (ap (λ b. cond b with_one (directed ring d past)) (ne_eqb c.direction d other.0))
 
 pub none_directed : (ring : Ring) (copies : List CaughtFields) (all : List DirectionNumbers) → ((d : ℕ) (own : DirectionNumbers) → slice_get all d ≡ Some own → own ≡ no_direction) → AreDirected ring copies 0 all
 none_directed ring copies all none d own own_d = none d own own_d
 
 directed_count : (ring : Ring) (d : ℕ) (field : DirectionNumbers → ℕ) (is_such : List CaughtFields → CaughtFields → Bool)
-    → ((n : DirectionNumbers) (past : List CaughtFields) (c : CaughtFields) → field (direction_with (carried_before past c) (is_late ring past c) n) ≡ more_if (field n) (is_such past c))
+    → ((n : DirectionNumbers) (past : List CaughtFields) (c : CaughtFields) → field (direction_with (times_before past c) (is_late ring past c) n) ≡ more_if (field n) (is_such past c))
     → field no_direction ≡ 0 → (past : List CaughtFields) → length past < 2 ^ 63 → field (directed ring d past) ≡ count_copies (λ p x. is_in d x && is_such p x) past
 directed_count ring d field is_such with_is none [] few = none
 directed_count ring d field is_such with_is none (c ∷ past) few = by_in (is_in d c) (directed_count ring d field is_such with_is none past (omega (arith, few)))
@@ -66,29 +68,15 @@ directed_count ring d field is_such with_is none (c ∷ past) few = by_in (is_in
     by_such true rest = omega (arith, rest, small, few)
     by_such false rest = rest
 
-    by_in : (b : Bool) → field before ≡ count → field (cond b (direction_with (carried_before past c) (is_late ring past c) before) before) ≡ cond (b && is_such past c) (count + 1) count
+    by_in : (b : Bool) → field before ≡ count → field (cond b (direction_with (times_before past c) (is_late ring past c) before) before) ≡ cond (b && is_such past c) (count + 1) count
     by_in true rest = with_is before past c ∙ by_such (is_such past c) rest
     by_in false rest = rest
-
-directed_most : (ring : Ring) (d : ℕ) (past : List CaughtFields) → (directed ring d past).most ≡ most_of (λ p x. cond (is_in d x) (carried_before p x + 1) 0) past
-directed_most ring d [] = refl
-directed_most ring d (c ∷ past) = by_in (is_in d c) (directed_most ring d past)
-  where
-    before : DirectionNumbers
-    before = directed ring d past
-
-    most : ℕ
-    most = most_of (λ p x. cond (is_in d x) (carried_before p x + 1) 0) past
-
-    by_in : (b : Bool) → before.most ≡ most → (cond b (direction_with (carried_before past c) (is_late ring past c) before) before).most ≡ max (cond b (carried_before past c + 1) 0) most
-    by_in true rest = ap (max (carried_before past c + 1)) rest
-    by_in false rest = omega (arith, rest)
 
 directed_none : (ring : Ring) (d : ℕ) (past : List CaughtFields) → (directed ring d past).overtaken ≡ 0
 directed_none ring d [] = refl
 directed_none ring d (c ∷ past) = by_in (is_in d c) (directed_none ring d past)
   where
-    by_in : (b : Bool) → (directed ring d past).overtaken ≡ 0 → (cond b (direction_with (carried_before past c) (is_late ring past c) (directed ring d past)) (directed ring d past)).overtaken ≡ 0
+    by_in : (b : Bool) → (directed ring d past).overtaken ≡ 0 → (cond b (direction_with (times_before past c) (is_late ring past c) (directed ring d past)) (directed ring d past)).overtaken ≡ 0
     by_in true rest = rest
     by_in false rest = rest
 
@@ -284,16 +272,18 @@ kept_same ring copies s t point way low is =
 
 -- ---- the whole
 
-pub joined_more : (ring : Ring) (way_0 way_1 : List Beside) (all new newer : List DirectionNumbers) (d : ℕ) (own before : DirectionNumbers) (beside : Beside) → length new ≡ d → newer ≡ new ++ own ∷ []
-    → slice_get all d ≡ Some before → beside ≡ beside_at ring way_0 way_1 d → own ≡ with_beside beside before → AreJoined ring way_0 way_1 all new → AreJoined ring way_0 way_1 all newer
-joined_more ring way_0 way_1 all new newer d own before beside long is there beside_is own_is are j x at_j = by_place (slice_get_push new own x j (ap (λ l. slice_get l j) (sym is) ∙ at_j))
+pub joined_more : (ring : Ring) (way_0 way_1 : List Beside) (most : List ℕ) (all new newer : List DirectionNumbers) (d : ℕ) (own before : DirectionNumbers) (beside : Beside) → length new ≡ d → newer ≡ new ++ own ∷ []
+    → slice_get all d ≡ Some before → beside ≡ beside_at ring way_0 way_1 d → own ≡ with_beside beside (slice_index most d) before → AreJoined ring way_0 way_1 most all new
+    → AreJoined ring way_0 way_1 most all newer
+joined_more ring way_0 way_1 most all new newer d own before beside long is there beside_is own_is are j x at_j = by_place (slice_get_push new own x j (ap (λ l. slice_get l j) (sym is) ∙ at_j))
   where
-    by_place : (slice_get new j ≡ Some x) ⊎ ((j ≡ length new) × (x ≡ own)) → IsJoined ring way_0 way_1 all j x
+    by_place : (slice_get new j ≡ Some x) ⊎ ((j ≡ length new) × (x ≡ own)) → IsJoined ring way_0 way_1 most all j x
     by_place (inl old) = are j x old
     by_place (inr here) = record {
       before = before;
       there = ap (slice_get all) (here.0 ∙ long) ∙ there;
-      is = here.1 ∙ own_is ∙ ap (λ b. with_beside b before) (beside_is ∙ ap (beside_at ring way_0 way_1) (sym (here.0 ∙ long)));
+      is = here.1 ∙ own_is ∙ ap (λ b. with_beside b (slice_index most d) before) beside_is
+          ∙ ap (λ k. with_beside (beside_at ring way_0 way_1 k) (slice_index most k) before) (sym (here.0 ∙ long));
     }
 
 other_low : (way : ℕ) → other_way way < 2
@@ -324,15 +314,16 @@ beside_of ring copies all way_0 way_1 points d long_0 long_1 are_0 are_1 inside 
     by_way (suc (suc way)) le = absurd (omega (arith, le))
 
 pub all_of_directions : (ring : Ring) (copies : List CaughtFields) (all : List Sighting) (numbers : List ℕ) (overtaken : List Overtaken) (points : ℕ) (base passed told : List DirectionNumbers)
-    (way_0 way_1 : List Beside) → length copies < 2 ^ 63 → AreSightings ring copies all numbers → AreOvertaken copies overtaken → AreDirected ring copies (length copies) base
+    (way_0 way_1 : List Beside) (most : List ℕ) → length copies < 2 ^ 63 → AreSightings ring copies all numbers → AreOvertaken copies overtaken → AreDirected ring copies (length copies) base
     → length passed ≡ length base → ArePassed copies overtaken base passed → length way_0 ≡ points → length way_1 ≡ points → AreBesides ring copies 0 all way_0 → AreBesides ring copies 1 all way_1
-    → AreJoined ring way_0 way_1 passed told → AreDirections ring points (reverse copies) told
-all_of_directions ring copies all numbers overtaken points base passed told way_0 way_1 few sightings_are overtaken_are directed_are long passed_are long_0 long_1 are_0 are_1 joined d own own_d inside low =
+    → length base ≤ length most → AreMost (reverse copies) most → AreJoined ring way_0 way_1 most passed told → AreDirections ring points (reverse copies) told
+all_of_directions ring copies all numbers overtaken points base passed told way_0 way_1 most few sightings_are overtaken_are directed_are long passed_are long_0 long_1 are_0 are_1 room most_are joined d own own_d inside low =
     record {
-      again = kept (λ x. x.again) (λ x b. refl) (λ x n. refl) ∙ directed_count ring d (λ x. x.again) is_again (λ n p c. refl) refl (reverse copies) short;
-      most = kept (λ x. x.most) (λ x b. refl) (λ x n. refl) ∙ directed_most ring d (reverse copies);
+      again = kept (λ x. x.again) (λ x b m. refl) (λ x n. refl)
+          ∙ directed_count ring d (λ x. x.again) is_again (λ n p c. ap (more_if n.again) (at_least_same 1 (carried_before p c) (omega arith))) refl (reverse copies) short;
+      most = ap (λ (x : DirectionNumbers). x.most) its.is ∙ most_are d (slice_index most d) (slice_get-get_or most d 0 (omega (arith, inside_all, room)));
       overtaken = ap (λ (x : DirectionNumbers). x.overtaken) its.is ∙ ap (λ (x : DirectionNumbers). x.overtaken) its_passed ∙ all_overtaken copies overtaken d overtaken_are;
-      late = kept (λ x. x.late) (λ x b. refl) (λ x n. refl) ∙ directed_count ring d (λ x. x.late) (is_late ring) (λ n p c. refl) refl (reverse copies) short;
+      late = kept (λ x. x.late) (λ x b m. refl) (λ x n. refl) ∙ directed_count ring d (λ x. x.late) (is_late ring) (λ n p c. refl) refl (reverse copies) short;
       others = ap (λ (x : DirectionNumbers). x.others) its.is ∙ beside.others
           ∙ count_all ring copies all numbers (is_kept_at ring copies point (other_way way)) (is_judged_at ring point (other_way way)) sightings_are
           (λ s t is. kept_same ring copies s t point (other_way way) (other_low way) is);
@@ -352,17 +343,20 @@ all_of_directions ring copies all numbers overtaken points base passed told way_
     short : length (reverse copies) < 2 ^ 63
     short = omega (arith, few, length-reverse copies)
 
-    its : IsJoined ring way_0 way_1 passed d own
+    its : IsJoined ring way_0 way_1 most passed d own
     its = joined d own own_d
 
     beside : IsBeside ring copies way all point (beside_at ring way_0 way_1 d)
     beside = beside_of ring copies all way_0 way_1 points d long_0 long_1 are_0 are_1 inside low
 
+    inside_all : d < length base
+    inside_all = let below = slice_get_within passed d its.before its.there in omega (arith, below, long)
+
     first : DirectionNumbers
     first = get_or base d own
 
     at_d : slice_get base d ≡ Some first
-    at_d = let below = slice_get_within passed d its.before its.there in slice_get-get_or base d own (omega (arith, below, long))
+    at_d = slice_get-get_or base d own inside_all
 
     its_passed : its.before ≡ record first { overtaken = overtaken_in copies d overtaken }
     its_passed = passed_are d first its.before at_d its.there
@@ -373,7 +367,7 @@ all_of_directions ring copies all numbers overtaken points base passed told way_
     first_is : first ≡ directed ring d (reverse copies)
     first_is = directed_are d first at_d ∙ ap (directed ring d) whole
 
-    -- what neither the other way nor copies that were overtaken change
-    kept : (f : DirectionNumbers → ℕ) → ((x : DirectionNumbers) (b : Beside) → f (with_beside b x) ≡ f x) → ((x : DirectionNumbers) (n : ℕ) → f (record x { overtaken = n }) ≡ f x)
+    -- what neither the other way nor the most copies of a frame nor copies that were overtaken change
+    kept : (f : DirectionNumbers → ℕ) → ((x : DirectionNumbers) (b : Beside) (m : ℕ) → f (with_beside b m x) ≡ f x) → ((x : DirectionNumbers) (n : ℕ) → f (record x { overtaken = n }) ≡ f x)
         → f own ≡ f (directed ring d (reverse copies))
-    kept f by_beside by_passed = ap f its.is ∙ by_beside its.before (beside_at ring way_0 way_1 d) ∙ ap f its_passed ∙ by_passed first (overtaken_in copies d overtaken) ∙ ap f first_is
+    kept f by_beside by_passed = ap f its.is ∙ by_beside its.before (beside_at ring way_0 way_1 d) (slice_index most d) ∙ ap f its_passed ∙ by_passed first (overtaken_in copies d overtaken) ∙ ap f first_is

@@ -1,12 +1,12 @@
 -- Reasons that count copies, by flags.
 use Rattle.std.proofs.Common.{◌≡◌, ℕ, zero, suc, ◌+◌, ◌-◌, ◌<◌, ◌≤◌, Bool, true, false, cond, List, [], ◌∷◌, ◌++◌, get_or, length, reverse, take, ◌⊎◌, inl, inr, refl, sym, ap, subst, ◌∙◌, arith, Option, Some, None}
-use Rattle.std.specs.Prelude.{count_by, slice_get}
+use Rattle.std.specs.Prelude.{count_by, nat_le, not, slice_get, ◌&&◌}
 use Rattle.std.proofs.lemmas.Bool.{cases_lt}
 use Rattle.std.proofs.lemmas.List.{take_all}
 use Rattle.std.proofs.lemmas.List.Sums.{get_or-le-sum_by, sum_by-cons}
 use Rattle.std.proofs.lemmas.Option.{get_or_from_slice_get, same_Some, slice_get_within}
 use Rattle.hsr_frame_groups.specs.Frames.{CaughtFields, past_of}
-use Rattle.hsr_sightings.specs.Copies.{carried_before, count_copies, first_such}
+use Rattle.hsr_sightings.specs.Copies.{carried_before, count_copies, first_such, times_before}
 use Rattle.hsr_sightings.specs.Read.{AreSightings, TellsEach}
 use Rattle.hsr_sightings.specs.Ring.{Ring}
 use Rattle.hsr_sightings.specs.Fields.{Sighting}
@@ -23,6 +23,7 @@ use Rattle.hsr_health.proofs.Pasts.{past_more}
 use Rattle.hsr_health.proofs.Sourcing.{first_later, first_now}
 use Rattle.hsr_sightings.proofs.Counting.{slice_get_end, slice_get_left}
 use Rattle.hsr_sightings.proofs.Demanding.{after_by}
+use Rattle.hsr_sightings.proofs.Times.{at_least_same}
 
 -- ---- flags, one after the other
 
@@ -40,21 +41,23 @@ flags_more mark carried marks flags new i n m own long is carried_i marks_i own_
         let same_m : m ≡ q = same_Some m q (sym marks_i ∙ ap (slice_get marks) (sym place) ∙ marks_k) in
         ap (slice_get (flags ++ own ∷ [])) place ∙ slice_get_end flags own i long ∙ ap Some (own_is ∙ ap (λ x. is_marked mark x m) same_n ∙ ap (is_marked mark p) same_m)
 
-marked_such : (mark : Mark) (ring : Ring) (is_by_lane : ℕ → Bool) (past : List CaughtFields) (c : CaughtFields) → is_marked mark (carried_before past c) (mark_of is_by_lane ring past c) ≡ such_of mark ring is_by_lane past c
-marked_such the_mark.Storm ring is_by_lane past c = refl
-marked_such the_mark.Again ring is_by_lane past c = refl
+marked_such : (mark : Mark) (ring : Ring) (is_by_lane : ℕ → Bool) (past : List CaughtFields) (c : CaughtFields) → is_marked mark (times_before past c) (mark_of is_by_lane ring past c) ≡ such_of mark ring is_by_lane past c
+marked_such the_mark.Storm ring is_by_lane past c = at_least_same 3 (carried_before past c) (omega arith)
+marked_such the_mark.Again ring is_by_lane past c =
+    ap (λ b. b && not (nat_le 3 (times_before past c))) (at_least_same 1 (carried_before past c) (omega arith))
+    ∙ ap (λ b. nat_le 1 (carried_before past c) && not b) (at_least_same 3 (carried_before past c) (omega arith))
 marked_such the_mark.Clash ring is_by_lane past c = refl
 marked_such the_mark.Late ring is_by_lane past c = refl
 marked_such the_mark.Size ring is_by_lane past c = refl
 marked_such the_mark.Lane ring is_by_lane past c = refl
 
 pub flags_are : (mark : Mark) (ring : Ring) (is_by_lane : ℕ → Bool) (copies : List CaughtFields) (carried : List ℕ) (marks : List Marked) (flags : List Bool) (n : ℕ) → n ≡ length carried → length flags ≡ n
-    → TellsEach carried_before copies carried → TellsEach (mark_of is_by_lane ring) copies marks
+    → TellsEach times_before copies carried → TellsEach (mark_of is_by_lane ring) copies marks
     → ((k p : ℕ) (q : Marked) → k < n → slice_get carried k ≡ Some p → slice_get marks k ≡ Some q → slice_get flags k ≡ Some (is_marked mark p q)) → TellsEach (such_of mark ring is_by_lane) copies flags
 flags_are mark ring is_by_lane copies carried marks flags n many long carried_told marks_told each = record {
   each = λ i c here.
       let inside = slice_get_within copies i c here in
-      each i (carried_before (past_of copies i) c) (mark_of is_by_lane ring (past_of copies i) c) (omega (arith, inside, many, carried_told.long)) (carried_told.each i c here) (marks_told.each i c here)
+      each i (times_before (past_of copies i) c) (mark_of is_by_lane ring (past_of copies i) c) (omega (arith, inside, many, carried_told.long)) (carried_told.each i c here) (marks_told.each i c here)
       ∙ ap Some (marked_such mark ring is_by_lane (past_of copies i) c);
   long = omega (arith, long, many, carried_told.long);
 }

@@ -2,12 +2,12 @@
 --     OfSource        frames, first and last number, clashes, late copies, wrong sizes and lanes, fates and skews
 --     OfDirection     copies again, the most copies of a frame, overtaken and late ones, frames that this way hadn't
 --     OfPoint         frames, whether it sees both ways, and how many frames a table has to hold
-use Rattle.std.specs.Prelude.{ℕ, zero, suc, ◌≡◌, ◌+◌, ◌-◌, ◌/◌, ◌%◌, ◌<◌, ◌^◌, ◌==◌, ◌&&◌, max, min, nat_le, not, Bool, true, false, if◌then◌else◌, List, [], ◌∷◌, count_by, filter, filter_map, length, reverse, slice_get, slice_index, Option, Some, None, is_some, option_map, unwrap_or}
+use Rattle.std.specs.Prelude.{ℕ, zero, suc, ◌≡◌, ◌+◌, ◌-◌, ◌/◌, ◌%◌, ◌<◌, ◌^◌, ◌==◌, ◌&&◌, min, nat_le, not, Bool, true, false, if◌then◌else◌, List, [], ◌∷◌, count_by, filter, filter_map, length, reverse, slice_get, slice_index, Option, Some, None, is_some, option_map, unwrap_or}
 use Rattle.hsr_address.specs.Numbers.{number_of}
 use Rattle.hsr_frame.specs.Address.{is_group, is_same_address}
 use Rattle.hsr_frame_copies.specs.Alike.{has_right_size}
 use Rattle.hsr_frame_groups.specs.Frames.{CaughtFields, past_of}
-use Rattle.hsr_sightings.specs.Copies.{carried_before, count_copies, first_such, is_again, is_clash, is_late, is_overtaken, most_of, needed as needed_by}
+use Rattle.hsr_sightings.specs.Copies.{count_copies, first_such, is_again, is_clash, is_late, is_overtaken, most_carried, needed as needed_by, times_before}
 use Rattle.hsr_sightings.specs.Frames.{begins}
 use Rattle.hsr_sightings.specs.Read.{most_at}
 use Rattle.hsr_sightings.specs.Ring.{Ring, is_in, way_of}
@@ -245,7 +245,7 @@ other_way way = if way == 0 then 1 else 0
 
 pub record OfDirection (ring : Ring) (direction point way : ℕ) (copies : List CaughtFields) (numbers : DirectionNumbers) : Type 0 where
   pub again : numbers.again ≡ count_copies (λ past c. is_in direction c && is_again past c) copies
-  pub most : numbers.most ≡ most_of (λ past c. if is_in direction c then carried_before past c + 1 else 0) copies
+  pub most : numbers.most ≡ most_carried direction copies
   pub overtaken : numbers.overtaken ≡ count_copies (λ past c. is_in direction c && is_overtaken past c) copies
   pub late : numbers.late ≡ count_copies (λ past c. is_in direction c && is_late ring past c) copies
   pub others : numbers.others ≡ count_by (is_judged_at ring point (other_way way)) (sightings ring copies)
@@ -262,7 +262,6 @@ AreDirections ring points copies all = (direction : ℕ) (own : DirectionNumbers
 abbrev pub direction_with : ℕ → Bool → DirectionNumbers → DirectionNumbers
 direction_with carried late numbers = record numbers {
   again = more_if numbers.again (nat_le 1 carried);
-  most = max (carried + 1) numbers.most;
   late = more_if numbers.late late;
 }
 
@@ -273,7 +272,7 @@ no_direction = record { again = 0; most = 0; overtaken = 0; late = 0; others = 0
 abbrev pub directed : Ring → ℕ → List CaughtFields → DirectionNumbers
 directed ring direction [] = no_direction
 directed ring direction (c ∷ past) = let before = directed ring direction past in
-    if is_in direction c then direction_with (carried_before past c) (is_late ring past c) before else before
+    if is_in direction c then direction_with (times_before past c) (is_late ring past c) before else before
 
 abbrev pub AreDirected : Ring → List CaughtFields → ℕ → List DirectionNumbers → Type 0
 AreDirected ring copies i all = (direction : ℕ) (own : DirectionNumbers) → slice_get all direction ≡ Some own → own ≡ directed ring direction (past_of copies i)
@@ -339,16 +338,16 @@ beside_at ring way_0 way_1 direction =
     if slice_index ring.ways direction == 0 then unwrap_or (slice_get way_0 (slice_index ring.points direction)) no_beside
     else unwrap_or (slice_get way_1 (slice_index ring.points direction)) no_beside
 
-abbrev pub with_beside : Beside → DirectionNumbers → DirectionNumbers
-with_beside beside numbers = record numbers { others = beside.others; alone = beside.alone }
+abbrev pub with_beside : Beside → ℕ → DirectionNumbers → DirectionNumbers
+with_beside beside most numbers = record numbers { most = most; others = beside.others; alone = beside.alone }
 
-pub record IsJoined (ring : Ring) (way_0 way_1 : List Beside) (old : List DirectionNumbers) (direction : ℕ) (own : DirectionNumbers) : Type 0 where
+pub record IsJoined (ring : Ring) (way_0 way_1 : List Beside) (most : List ℕ) (old : List DirectionNumbers) (direction : ℕ) (own : DirectionNumbers) : Type 0 where
   pub before : DirectionNumbers
   pub there : slice_get old direction ≡ Some before
-  pub is : own ≡ with_beside (beside_at ring way_0 way_1 direction) before
+  pub is : own ≡ with_beside (beside_at ring way_0 way_1 direction) (slice_index most direction) before
 
-abbrev pub AreJoined : Ring → List Beside → List Beside → List DirectionNumbers → List DirectionNumbers → Type 0
-AreJoined ring way_0 way_1 old new = (direction : ℕ) (own : DirectionNumbers) → slice_get new direction ≡ Some own → IsJoined ring way_0 way_1 old direction own
+abbrev pub AreJoined : Ring → List Beside → List Beside → List ℕ → List DirectionNumbers → List DirectionNumbers → Type 0
+AreJoined ring way_0 way_1 most old new = (direction : ℕ) (own : DirectionNumbers) → slice_get new direction ≡ Some own → IsJoined ring way_0 way_1 most old direction own
 
 -- ---- a point
 

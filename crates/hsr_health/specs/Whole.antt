@@ -38,7 +38,8 @@ use Rattle.hsr_health.specs.declared.order.Facts.{Facts}
 use Rattle.hsr_health.specs.declared.reason.Reason.{Reason}
 use Rattle.hsr_health.specs.declared.sources.Sources.{Sources}
 use Rattle.hsr_packet_order.specs.Disorder.{disorder_of, moment_of}
-use Rattle.hsr_sightings.specs.Copies.{carried_before, count_copies, crowd}
+use Rattle.hsr_sightings.specs.Again.{IsCarried}
+use Rattle.hsr_sightings.specs.Copies.{count_copies, crowd}
 use Rattle.hsr_sightings.specs.Frames.{begins}
 use Rattle.hsr_sightings.specs.Read.{AreNeeded, AreOvertaken, AreRead, AreSightings, HasPlaces, HasWays, HaveOwnNumbers, TellsEach, most_at}
 use Rattle.hsr_sightings.specs.Ring.{Ring}
@@ -177,13 +178,13 @@ pub record AreCaught (ring : Ring) (copies : List CaughtFields) : Type 0 where
 -- what copies tell of one another as copies of frames
 pub record AreFramed (ring : Ring) (copies : List CaughtFields) (taps : List Taps) (framed : Framed) : Type 0 where
   pub read : AreRead copies framed.firsts.items
-  pub carried : TellsEach carried_before copies framed.carried.items
+  pub carried : IsCarried copies framed.carried
   pub overtaken : AreOvertaken copies framed.overtaken.items
   pub marks : TellsEach (mark_but_late (is_at (lanes_of taps)) ring) copies framed.marks.items
 
 -- what copies tell of one another
 pub record IsSeen (ring : Ring) (copies : List CaughtFields) (taps : List Taps) (seen : Seen) : Type 0 where
-  pub carried : TellsEach carried_before copies seen.carried.items
+  pub carried : IsCarried copies seen.carried
   pub sightings : AreSightings ring copies seen.sightings.all.items seen.sightings.of_copy.items
   pub overtaken : AreOvertaken copies seen.overtaken.items
   pub marks : TellsEach (mark_of (is_at (lanes_of taps)) ring) copies seen.marks.items

@@ -129,7 +129,7 @@ pub(crate) fn all_reasons(
     let mut reasons = copy_reasons(
         alloc,
         copies,
-        seen.carried.as_slice(),
+        seen.carried.times.as_slice(),
         &seen.sightings,
         seen.marks.as_slice(),
         seen.overtaken.as_slice(),

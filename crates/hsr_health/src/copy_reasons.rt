@@ -6,7 +6,7 @@ ghost use Rattle.hsr_health.specs.Reasons.{AreOfCopies, Puts};
 ghost use Rattle.hsr_health.specs.Told.{IsFirstFlag, IsOfCopies, IsToldWith, is_marked, spot_of, such_of, word_of};
 ghost use Rattle.hsr_health.specs.What.{behind_what, behind_what_by, copy_what, copy_what_by};
 ghost use Rattle.hsr_health.specs.declared.reason.Word.TheVariants as the_word;
-ghost use Rattle.hsr_sightings.specs.Copies.{carried_before, is_overtaken};
+ghost use Rattle.hsr_sightings.specs.Copies.{is_overtaken, times_before};
 ghost use Rattle.hsr_sightings.specs.Ring as the_ring;
 ghost use Rattle.hsr_sightings.specs.Fields as the_sighting;
 ghost use Rattle.hsr_sightings.specs.Read.{AreOvertaken, AreSightings, TellsEach};
@@ -31,10 +31,10 @@ enum Mark {
 }
 
 /// The most copies of a frame on one direction that are no storm.
-const STORM: u32 = 3;
+const STORM: u8 = 3;
 
 /// Whether a copy is such.
-fn is_such(mark: Mark, carried: u32, marks: Marks) -> bool
+fn is_such(mark: Mark, carried: u8, marks: Marks) -> bool
     ensures { result ≡ is_marked mark carried marks }
 {
     match mark {
@@ -65,11 +65,11 @@ fn word_of(mark: Mark) -> Word
 fn flags_of(
     alloc: Global,
     mark: Mark,
-    carried: &[u32],
+    carried: &[u8],
     marks: &[Marks],
 ) -> Result<Vec<bool>, NoMemory>
     requires { length marks.now ≡ length carried.now }
-    ensures { IfOk result (λ flags. (ring : the_ring.Ring) (is_by_lane : ℕ → Bool) (copies : List CaughtFields) → TellsEach carried_before copies carried.now
+    ensures { IfOk result (λ flags. (ring : the_ring.Ring) (is_by_lane : ℕ → Bool) (copies : List CaughtFields) → TellsEach times_before copies carried.now
         → TellsEach (mark_of is_by_lane ring) copies marks.now → TellsEach (such_of mark ring is_by_lane) copies flags.items) }
 {
     let mut flags = Vec::new(alloc);
@@ -185,12 +185,12 @@ fn reason_of(
     alloc: Global,
     mark: Mark,
     copies: &[Caught<'_>],
-    carried: &[u32],
+    carried: &[u8],
     sightings: &Sightings,
     marks: &[Marks],
 ) -> Result<Option<Reason>, NoMemory>
     requires { length marks.now ≡ length carried.now }
-    ensures { IfOk result (λ reason. (ring : the_ring.Ring) (is_by_lane : ℕ → Bool) → TellsEach carried_before copies.now carried.now
+    ensures { IfOk result (λ reason. (ring : the_ring.Ring) (is_by_lane : ℕ → Bool) → TellsEach times_before copies.now carried.now
         → TellsEach (mark_of is_by_lane ring) copies.now marks.now → AreSightings ring copies.now sightings.now.all.items sightings.now.of_copy.items
         → IsOfCopies (word_of mark) (such_of mark ring is_by_lane) (copy_what mark ring) (reverse copies.now) reason) }
 {
@@ -236,12 +236,12 @@ fn put_marked(
     reasons: &mut Vec<Reason>,
     mark: Mark,
     copies: &[Caught<'_>],
-    carried: &[u32],
+    carried: &[u8],
     sightings: &Sightings,
     marks: &[Marks],
 ) -> Result<(), NoMemory>
     requires { length marks.now ≡ length carried.now }
-    ensures { OnOk result ((ring : the_ring.Ring) (is_by_lane : ℕ → Bool) → TellsEach carried_before copies.now carried.now
+    ensures { OnOk result ((ring : the_ring.Ring) (is_by_lane : ℕ → Bool) → TellsEach times_before copies.now carried.now
         → TellsEach (mark_of is_by_lane ring) copies.now marks.now → AreSightings ring copies.now sightings.now.all.items sightings.now.of_copy.items
         → Puts (IsOfCopies (word_of mark) (such_of mark ring is_by_lane) (copy_what mark ring) (reverse copies.now)) reasons.old.items reasons.new.items) }
 {
@@ -255,13 +255,13 @@ fn put_marked(
 pub(crate) fn copy_reasons(
     alloc: Global,
     copies: &[Caught<'_>],
-    carried: &[u32],
+    carried: &[u8],
     sightings: &Sightings,
     marks: &[Marks],
     overtaken: &[Overtaken],
 ) -> Result<Vec<Reason>, NoMemory>
     requires { length marks.now ≡ length carried.now }
-    ensures { IfOk result (λ reasons. (ring : the_ring.Ring) (is_by_lane : ℕ → Bool) → TellsEach carried_before copies.now carried.now
+    ensures { IfOk result (λ reasons. (ring : the_ring.Ring) (is_by_lane : ℕ → Bool) → TellsEach times_before copies.now carried.now
         → TellsEach (mark_of is_by_lane ring) copies.now marks.now → AreSightings ring copies.now sightings.now.all.items sightings.now.of_copy.items → AreOvertaken copies.now overtaken.now
         → AreOfCopies ring is_by_lane (reverse copies.now) reasons.items) }
 {

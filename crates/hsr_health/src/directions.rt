@@ -1,11 +1,12 @@
 //! What is told of points and of directions.
-ghost use Rattle.std.specs.Prelude.{◌≡◌, ℕ, Bool, List, length, map, reverse, slice_get, unwrap_or, IfOk, Some};
+ghost use Rattle.std.specs.Prelude.{◌≡◌, ◌≤◌, ℕ, Bool, List, length, map, reverse, slice_get, unwrap_or, IfOk, Some};
 ghost use Rattle.std.specs.List.{range_with_len};
 ghost use Rattle.hsr_frame_groups.specs.Frames.{CaughtFields};
 ghost use Rattle.hsr_health.specs.Counted.{AreBegun, AreBesides, AreDirected, AreDirections, AreJoined, AreOfPoints, ArePassed, HaveNoOvertaken, beside_at, beside_with, changed, direction_with, is_fate, is_judged, mark_of, no_beside, no_direction, one_more, other_way, overtaken_more, overtaken_put, with_beside};
 ghost use Rattle.hsr_health.specs.declared.directions.Beside as the_beside;
 ghost use Rattle.hsr_health.specs.declared.directions.DirectionNumbers as the_numbers;
-ghost use Rattle.hsr_sightings.specs.Copies.{carried_before};
+ghost use Rattle.hsr_sightings.specs.Again.{IsCarried};
+ghost use Rattle.hsr_sightings.specs.Copies.{times_before};
 ghost use Rattle.hsr_sightings.specs.Read.{AreNeeded, AreOvertaken, AreSightings, TellsEach};
 ghost use Rattle.hsr_sightings.specs.Ring as the_ring;
 ghost use Rattle.hsr_sightings.specs.Seen.{fate_of};
@@ -16,7 +17,7 @@ use crate::counts::more_if;
 use crate::marks::Marks;
 use hsr_frame::NoMemory;
 use hsr_frame_groups::Caught;
-use hsr_sightings::{Fate, Overtaken, Ring, Sighting, fate_of};
+use hsr_sightings::{Carried, Fate, Overtaken, Ring, Sighting, fate_of};
 use hsr_taps::DIRECTIONS;
 use std::alloc::Global;
 
@@ -43,12 +44,11 @@ pub struct DirectionNumbers {
 }
 
 /// With one more copy, by how often its direction carried its frame before.
-fn with(numbers: DirectionNumbers, carried: u32, is_late: bool) -> DirectionNumbers
+fn with(numbers: DirectionNumbers, carried: u8, is_late: bool) -> DirectionNumbers
     ensures { result ≡ direction_with carried is_late numbers }
 {
     DirectionNumbers {
         again: more_if(numbers.again, carried >= 1),
-        most: (u64::from(carried) + 1).max(numbers.most),
         late: more_if(numbers.late, is_late),
         ..numbers
     }
@@ -71,7 +71,7 @@ fn direction_of(caught: &Caught<'_>) -> usize
 }
 
 /// Counts a copy of a direction, if that is among them.
-fn put_copy(all: &mut Vec<DirectionNumbers>, caught: &Caught<'_>, carried: u32, marks: Marks)
+fn put_copy(all: &mut Vec<DirectionNumbers>, caught: &Caught<'_>, carried: u8, marks: Marks)
     ensures long { length all.new.items ≡ length all.old.items }
     ensures all { all.new.items ≡ changed (direction_with carried marks.is_late) caught.now.direction all.old.items }
 {
@@ -85,13 +85,13 @@ fn put_copy(all: &mut Vec<DirectionNumbers>, caught: &Caught<'_>, carried: u32, 
 fn put_copies(
     all: &mut Vec<DirectionNumbers>,
     copies: &[Caught<'_>],
-    carried: &[u32],
+    carried: &[u8],
     marks: &[Marks],
 )
     requires carried { length carried.now ≡ length copies.now }
     requires marks { length marks.now ≡ length copies.now }
     ensures long { length all.new.items ≡ length all.old.items }
-    ensures all { (is_by_lane : ℕ → Bool) (ring : the_ring.Ring) → TellsEach carried_before copies.now carried.now
+    ensures all { (is_by_lane : ℕ → Bool) (ring : the_ring.Ring) → TellsEach times_before copies.now carried.now
         → TellsEach (mark_of is_by_lane ring) copies.now marks.now → AreDirected ring copies.now 0 all.old.items → AreDirected ring copies.now (length copies.now) all.new.items }
 {
     for i in 0..copies.len() {
@@ -252,31 +252,35 @@ fn beside_at(ring: &Ring<'_>, way_0: &[Beside], way_1: &[Beside], direction: usi
     }
 }
 
-/// With what the other way had.
-fn with_beside(numbers: DirectionNumbers, beside: Beside) -> DirectionNumbers
-    ensures { result ≡ with_beside beside numbers }
+/// With what the other way had, and the most copies of a frame.
+fn with_beside(numbers: DirectionNumbers, beside: Beside, most: u64) -> DirectionNumbers
+    ensures { result ≡ with_beside beside most numbers }
 {
     DirectionNumbers {
+        most,
         others: beside.others,
         alone: beside.alone,
         ..numbers
     }
 }
 
-/// What is told of each direction, with what the other ways had.
+/// What is told of each direction, with what the other ways had, and the most copies of a frame.
 fn joined(
     alloc: Global,
     ring: &Ring<'_>,
     all: &[DirectionNumbers],
     way_0: &[Beside],
     way_1: &[Beside],
+    most: &[u64],
 ) -> Result<Vec<DirectionNumbers>, NoMemory>
+    requires { length all.now ≤ length most.now }
     ensures long { IfOk result (λ new. length new.items ≡ length all.now) }
-    ensures all { IfOk result (λ new. AreJoined ring.now way_0.now way_1.now all.now new.items) }
+    ensures all { IfOk result (λ new. AreJoined ring.now way_0.now way_1.now most.now all.now new.items) }
 {
     let mut new = Vec::new(alloc);
     for d in 0..all.len() {
-        new.push(with_beside(all[d], beside_at(ring, way_0, way_1, d)))?;
+        let beside = beside_at(ring, way_0, way_1, d);
+        new.push(with_beside(all[d], beside, most[d]))?;
     }
     Ok(new)
 }
@@ -286,20 +290,20 @@ pub(crate) fn directions_of(
     alloc: Global,
     ring: &Ring<'_>,
     copies: &[Caught<'_>],
-    carried: &[u32],
+    carried: &Carried,
     marks: &[Marks],
     sightings: &[Sighting],
     overtaken: &[Overtaken],
     points: usize,
 ) -> Result<Vec<DirectionNumbers>, NoMemory>
-    requires carried { length carried.now ≡ length copies.now }
+    requires carried { IsCarried copies.now carried.now }
     requires marks { length marks.now ≡ length copies.now }
     ensures long { IfOk result (λ all. length all.items ≡ 320) }
-    ensures directions { IfOk result (λ all. (is_by_lane : ℕ → Bool) (numbers : List ℕ) → TellsEach carried_before copies.now carried.now → TellsEach (mark_of is_by_lane ring.now) copies.now marks.now
+    ensures directions { IfOk result (λ all. (is_by_lane : ℕ → Bool) (numbers : List ℕ) → TellsEach (mark_of is_by_lane ring.now) copies.now marks.now
         → AreSightings ring.now copies.now sightings.now numbers → AreOvertaken copies.now overtaken.now → AreDirections ring.now points (reverse copies.now) all.items) }
 {
     let mut all = no_directions(alloc, DIRECTIONS)?;
-    put_copies(&mut all, copies, carried, marks);
+    put_copies(&mut all, copies, carried.times.as_slice(), marks);
     put_all_overtaken(&mut all, copies, overtaken);
     let way_0 = besides_of(alloc, ring, copies, sightings, points, 0)?;
     let way_1 = besides_of(alloc, ring, copies, sightings, points, 1)?;
@@ -309,6 +313,7 @@ pub(crate) fn directions_of(
         all.as_slice(),
         way_0.as_slice(),
         way_1.as_slice(),
+        carried.most.as_slice(),
     )?;
     Ok(told)
 }

@@ -10,7 +10,7 @@ ghost use Rattle.hsr_taps.specs.Tallies.{is_at};
 use crate::marks::{Marks, marks_of};
 use hsr_frame::NoMemory;
 use hsr_frame_groups::{Caught, frames_of};
-use hsr_sightings::{Overtaken, Ring, begins_of, carried_of, clashes_of, overtaken_of};
+use hsr_sightings::{Carried, Overtaken, Ring, begins_of, carried_of, clashes_of, overtaken_of};
 use hsr_taps::{DIRECTIONS, Taps, interface_of};
 use std::alloc::Global;
 
@@ -40,7 +40,7 @@ fn by_lane(alloc: Global, taps: &[Taps]) -> Result<Vec<bool>, NoMemory>
 #[derive(Drop)]
 pub(crate) struct Framed {
     pub(crate) firsts: Vec<u32>,
-    pub(crate) carried: Vec<u32>,
+    pub(crate) carried: Carried,
     pub(crate) overtaken: Vec<Overtaken>,
     pub(crate) marks: Vec<Marks>,
 }
@@ -79,7 +79,7 @@ pub(crate) fn framed_of(
 {
     let firsts = frames_of(alloc, copies)?;
     let carried = carried_of(alloc, copies, firsts.as_slice())?;
-    let overtaken = overtaken_of(alloc, copies, firsts.as_slice(), carried.as_slice())?;
+    let overtaken = overtaken_of(alloc, copies, firsts.as_slice(), carried.times.as_slice())?;
     let marks = first_marks(alloc, ring, copies, taps, firsts.as_slice())?;
     Ok(Framed {
         firsts,

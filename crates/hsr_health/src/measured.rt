@@ -85,7 +85,7 @@ pub(crate) fn measured_of(
     let needed = needed_of(alloc, ring, copies, all, numbers, many)?;
     let demand = needed.as_slice();
     let crowds = crowds_of(alloc, ring, copies, all, numbers, many)?;
-    let carried = seen.carried.as_slice();
+    let carried = &seen.carried;
     let marks = seen.marks.as_slice();
     let passed = seen.overtaken.as_slice();
     let directions = directions_of(alloc, ring, copies, carried, marks, all, passed, many)?;

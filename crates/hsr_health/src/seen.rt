@@ -1,42 +1,22 @@
 //! What copies tell of one another.
 ghost use Rattle.std.specs.Prelude.{List, IfOk};
 ghost use Rattle.hsr_health.specs.Whole.{AreCaught, AreFramed, IsSeen};
-ghost use Rattle.hsr_sightings.specs.Copies.{carried_before};
-ghost use Rattle.hsr_sightings.specs.Read.{AreRead, AreSightings, HasPlaces, HasWays, TellsEach};
 ghost use Rattle.hsr_taps.specs.declared.direction.Taps as the_taps;
 
 use crate::framed::Framed;
 use crate::marks::{Marks, with_lates};
 use hsr_frame::NoMemory;
 use hsr_frame_groups::Caught;
-use hsr_sightings::{Overtaken, Ring, Sightings, lates_of, sightings_of};
+use hsr_sightings::{Carried, Overtaken, Ring, Sightings, lates_of, sightings_of};
 use std::alloc::Global;
 
 /// What the copies tell of one another.
 #[derive(Drop)]
 pub(crate) struct Seen {
-    pub(crate) carried: Vec<u32>,
+    pub(crate) carried: Carried,
     pub(crate) sightings: Sightings,
     pub(crate) overtaken: Vec<Overtaken>,
     pub(crate) marks: Vec<Marks>,
-}
-
-/// The frames at points. The places of the copies that began frames go here: nothing else is told of them, and marks come next.
-fn sightings_by(
-    alloc: Global,
-    ring: &Ring<'_>,
-    copies: &[Caught<'_>],
-    firsts: Vec<u32>,
-    carried: &[u32],
-) -> Result<Sightings, NoMemory>
-    requires read { AreRead copies.now firsts.items }
-    requires carried { TellsEach carried_before copies.now carried.now }
-    requires places { HasPlaces ring.now }
-    requires ways { HasWays ring.now }
-    ensures { IfOk result (λ found. AreSightings ring.now copies.now found.all.items found.of_copy.items) }
-{
-    let found = sightings_of(alloc, ring, copies, firsts.as_slice(), carried)?;
-    Ok(found)
 }
 
 /// What the copies of a capture tell of one another, where this is what they tell as copies of frames.
@@ -56,8 +36,8 @@ pub(crate) fn seen_of(
         overtaken,
         marks,
     } = framed;
-    let before = carried.as_slice();
-    let sightings = sightings_by(alloc, ring, copies, firsts, before)?;
+    let times = carried.times.as_slice();
+    let sightings = sightings_of(alloc, ring, copies, firsts, times)?;
     let all = sightings.all.as_slice();
     let numbers = sightings.of_copy.as_slice();
     let lates = lates_of(alloc, copies, all, numbers)?;

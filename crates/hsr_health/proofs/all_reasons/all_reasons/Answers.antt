@@ -4,7 +4,7 @@ use Rattle.hsr_health.specs.Counted.{mark_of}
 use Rattle.hsr_health.specs.Reasons.{AreOfPoints, AreOfSources, AreOfStrays, AreOfWhole}
 use Rattle.hsr_health.specs.Whole.{lanes_of}
 use Rattle.hsr_health.proofs.Measuring.{both_whole}
-use Rattle.hsr_sightings.specs.Copies.{carried_before}
+use Rattle.hsr_sightings.specs.Copies.{times_before}
 use Rattle.hsr_sightings.specs.Read.{AreOvertaken, AreSightings, TellsEach}
 use Rattle.hsr_sightings.specs.Sightings.{sees_both_ways}
 use Rattle.hsr_taps.specs.Tallies.{is_at}
@@ -29,7 +29,7 @@ returns c = λ taps many found.
       of_sources = c.put_source_reasons.new.reasons.items;
       of_points = c.put_point_reasons.new.reasons.items;
       crowded = c.crowded_reason-crowded.result;
-      of_copies_told = c.in_ok-reasons.ensures ring lanes (subst (TellsEach carried_before copies) (sym c.as_slice.ensures.value) found.seen.carried)
+      of_copies_told = c.in_ok-reasons.ensures ring lanes (subst (TellsEach times_before copies) (sym c.as_slice.ensures.value) found.seen.carried.times)
           (subst (TellsEach (mark_of lanes ring) copies) (sym c.as_slice-2.ensures.value) found.seen.marks) found.seen.sightings (subst (AreOvertaken copies) (sym c.as_slice-3.ensures.value) found.seen.overtaken);
       of_whole_told = subst (λ l. AreOfWhole copies l beside.losses.now beside.is_asked.now beside.absent.now c.in_ok-reasons.reasons.items c.put_whole_reasons.new.reasons.items) c.as_slice-counts.ensures.value
           c.in_ok-put_whole_reasons.ensures;

@@ -6,5 +6,5 @@ use Rattle.hsr_health.proofs.directions.joined.Given as goal
 abbrev pub invariant-loop-d : goal.invariant-loop-d
 invariant-loop-d l = record {
   long : length l.new.items ≡ l.d;
-  all : AreJoined l.ring l.way_0 l.way_1 l.all l.new.items;
+  all : AreJoined l.ring l.way_0 l.way_1 l.most l.all l.new.items;
 }

@@ -5,7 +5,6 @@ use Rattle.hsr_health.specs.Counted.{AreSources, mark_of}
 use Rattle.hsr_health.specs.Told.{IsGreatest}
 use Rattle.hsr_health.specs.Whole.{greatest, lanes_of}
 use Rattle.hsr_health.proofs.Measuring.{both_whole, crowds_are}
-use Rattle.hsr_sightings.specs.Copies.{carried_before}
 use Rattle.hsr_sightings.specs.Read.{AreNeeded, AreOvertaken, AreSightings, TellsEach}
 use Rattle.hsr_sightings.specs.Sightings.{sees_both_ways}
 use Rattle.hsr_sightings.specs.declared.late.Crowd.{Crowd}
@@ -50,7 +49,7 @@ returns c =
         greatest = subst (λ l. IsGreatest l c.greatest_crowd.result) c.as_slice.ensures.value c.greatest_crowd.ensures.greatest;
       };
       points = c.in_ok-points.ensures.points ring copies numbers sightings both (subst (AreNeeded ring copies) (sym c.as_slice-demand.ensures.value) c.in_ok-needed.ensures.needed);
-      directions = c.in_ok-directions.ensures.directions (is_at (lanes_of taps)) numbers (subst (TellsEach carried_before copies) (sym c.as_slice-carried.ensures.value) seen.carried)
+      directions = c.in_ok-directions.ensures.directions (is_at (lanes_of taps)) numbers
           (subst (TellsEach (mark_of (is_at (lanes_of taps)) ring) copies) (sym c.as_slice-marks.ensures.value) seen.marks) sightings (subst (AreOvertaken copies) (sym c.as_slice-passed.ensures.value) seen.overtaken);
       spans = subst (λ n. AreRuns ring c.args.sources.now.macs.items (runs_of ring copies n) c.in_ok-spans.spans.items) long
           (subst (λ l. AreRuns ring l (runs_of ring copies (length sees)) c.in_ok-spans.spans.items) c.as_slice-macs.ensures.value (c.in_ok-spans.ensures numbers sources sightings both));
