@@ -1,8 +1,15 @@
--- An address is that of its number.
+-- No two addresses have one number.
 use Rattle.std.proofs.Common.{◌≡◌, ℕ, ◌+◌, ◌*◌, ◌/◌, ◌%◌, ◌<◌, List, [], ◌∷◌, length, refl, sym, ap, ◌∙◌, arith}
 use Rattle.std.specs.Prelude.{slice_index}
 use Rattle.hsr_frame.specs.Address.{IsAddress}
-use Rattle.hsr_address.specs.Numbers.{address_of, number_of}
+use Rattle.hsr_address.specs.Numbers.{number_of}
+
+-- the octets of a number, by their units
+abbrev octet_of : ℕ → ℕ → ℕ
+octet_of number unit = number / unit % 256
+
+abbrev address_of : ℕ → List ℕ
+address_of n = octet_of n 1099511627776 ∷ octet_of n 4294967296 ∷ octet_of n 16777216 ∷ octet_of n 65536 ∷ octet_of n 256 ∷ octet_of n 1 ∷ []
 
 six_octets : (mac : List ℕ) → length mac ≡ 6
     → mac ≡ slice_index mac 0 ∷ slice_index mac 1 ∷ slice_index mac 2 ∷ slice_index mac 3 ∷ slice_index mac 4 ∷ slice_index mac 5 ∷ []
@@ -29,7 +36,7 @@ digits a b c d e f n a_low b_low c_low d_low e_low f_low is =
     let last : n / 1 % 256 ≡ f = omega (arith, is, a_low, b_low, c_low, d_low, e_low, f_low) in
     six_same _ _ _ _ _ _ a b c d e f first second third fourth fifth last
 
-pub address_back : (mac : List ℕ) → IsAddress mac → address_of (number_of mac) ≡ mac
+address_back : (mac : List ℕ) → IsAddress mac → address_of (number_of mac) ≡ mac
 address_back mac is =
     digits (slice_index mac 0) (slice_index mac 1) (slice_index mac 2) (slice_index mac 3) (slice_index mac 4) (slice_index mac 5) (number_of mac) (is.each 0) (is.each 1) (is.each 2) (is.each 3) (is.each 4)
     (is.each 5) refl

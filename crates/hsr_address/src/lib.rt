@@ -1,9 +1,9 @@
-//! Addresses as numbers, so that they can be sorted, counted and found.
+//! Addresses as numbers, so that they can be put in order and found.
 //!
 //! Its modules, in the order in which to read them:
-//! - `number`: the number of an address, and the address of a number
+//! - `number`: the number of an address
 #![tactic(auto)]
 
 mod number;
 
-pub use number::{mac_of, number_of};
+pub use number::number_of;

@@ -1,20 +1,16 @@
--- Who sent frames, by numbers.
-use Rattle.std.proofs.Common.{Bool, cond, ◌≡◌, ℕ, zero, suc, ◌+◌, ◌<◌, ◌≤◌, List, [], ◌∷◌, ◌++◌, get_or, length, map, take, ◌⊎◌, inl, inr, refl, sym, ap, subst, ◌∙◌, arith, true, false, Option, Some, None}
-use Rattle.std.specs.Prelude.{nat_lt, option_map, slice_get, slice_index, Contains, IfNone, IfSome}
-use Rattle.std.proofs.lemmas.Bool.{cases_order, ltb-false, ltb-true}
-use Rattle.std.proofs.lemmas.List.{length-map, map-append, take_more}
-use Rattle.std.proofs.lemmas.List.Elements.{Contains-get_or}
-use Rattle.std.proofs.lemmas.Option.{get_or_from_slice_get, none-some, same_Some, slice_get-get_or, slice_get-map, slice_get_within}
+-- Who sent frames, by the numbers of addresses.
+use Rattle.std.proofs.Common.{Bool, cond, ◌≡◌, ℕ, zero, suc, ◌+◌, ◌<◌, ◌≤◌, List, [], ◌∷◌, ◌++◌, drop, get_or, length, take, ◌⊎◌, inl, inr, refl, sym, ap, subst, ◌∙◌, arith, true, false, Option, Some, None}
+use Rattle.std.specs.Prelude.{nat_lt, slice_get, Contains, IfNone, IfSome}
+use Rattle.std.specs.List.{insert}
+use Rattle.std.proofs.lemmas.Bool.{cases_order, eq-eqb, eqb-true, ltb-false, ltb-true}
+use Rattle.std.proofs.lemmas.Option.{none-some, same_Some, slice_get-get_or, slice_get_within}
 use Rattle.std.proofs.lemmas.Slice.Eq.{bytes_eq-Decides}
-use Rattle.hsr_address.specs.Numbers.{address_of, number_of}
-use Rattle.hsr_address.proofs.Numbering.{address_back}
-use Rattle.hsr_frame.specs.Address.{is_same_address}
+use Rattle.hsr_address.specs.Numbers.{number_of}
+use Rattle.hsr_address.proofs.Numbering.{same_by_number}
+use Rattle.hsr_frame.specs.Address.{IsAddress, is_same_address}
 use Rattle.hsr_frame_groups.specs.Frames.{CaughtFields}
-use Rattle.hsr_health.specs.ByKey.{AreCountsOf}
 use Rattle.hsr_health.specs.Counted.{AreSources}
-use Rattle.hsr_health.specs.Sources.{AreIndexes, AreThere, HasManySources, HaveAddresses, IsIndex, IsPart, IsPlace, IsSourceOf, Rise, index_by, index_if, mac_by, source_number}
-use Rattle.hsr_health.specs.declared.by_key.KeyCount.{KeyCount}
-use Rattle.hsr_health.proofs.Sorting.{mapped_from}
+use Rattle.hsr_health.specs.Sources.{AreIndexes, AreMacs, HasManySources, IsIndex, IsPart, IsPlace, IsSourceOf, IsWith, Rise, index_by, index_if, source_number, stands_by}
 use Rattle.hsr_sightings.proofs.Gathering.{slice_get_push}
 
 -- ---- places
@@ -97,21 +93,23 @@ index_at macs number place rise found is = by_order (cases_order found.0 place)
         let less = rise place found.0 (get_or macs place found.1.own) found.1.own after here found.1.there in
         absurd (omega (arith, more, less, found.1.is))
 
-pub indexes_more : (numbers : List ℕ) (macs : List (List ℕ)) (indexes new : List ℕ) (i own : ℕ) → length indexes ≡ i → new ≡ indexes ++ own ∷ [] → ((n : ℕ) → slice_get numbers i ≡ Some n → IsIndex macs n own)
-    → ((j n k : ℕ) → slice_get numbers j ≡ Some n → slice_get indexes j ≡ Some k → IsIndex macs n k) → (j n k : ℕ) → slice_get numbers j ≡ Some n → slice_get new j ≡ Some k → IsIndex macs n k
-indexes_more numbers macs indexes new i own long is own_is each j n k at_j index_j = by_case (slice_get_push indexes own k j (ap (λ l. slice_get l j) (sym is) ∙ index_j))
-  where
-    by_case : (slice_get indexes j ≡ Some k) ⊎ ((j ≡ length indexes) × (k ≡ own)) → IsIndex macs n k
-    by_case (inl old) = each j n k at_j old
-    by_case (inr here) = subst (IsIndex macs n) (sym here.1) (own_is n (ap (slice_get numbers) (sym (here.0 ∙ long)) ∙ at_j))
+-- the index of a copy's source, where it was looked for
+pub source_at : (copies : List CaughtFields) (macs : List (List ℕ)) (i place : ℕ) (c : CaughtFields) → AreMacs copies (length copies) macs → slice_get copies i ≡ Some c → IsAddress c.copy.src
+    → IsPlace macs (source_number c) place → slice_get macs place ≡ Some c.copy.src
+source_at copies macs i place c are here address at =
+    let found = index_at macs (source_number c) place are.rise (are.there i c (slice_get_within copies i c here) here) at in
+    found.there ∙ ap Some (same_by_number found.own c.copy.src (are.sources place found.own found.there).1 address found.is)
 
--- the number that was read
-pub index_of_read : (numbers : List ℕ) (macs : List (List ℕ)) (i place : ℕ) → Rise macs → AreThere numbers macs → IsPlace macs (slice_index numbers i) place → (n : ℕ) → slice_get numbers i ≡ Some n
-    → IsIndex macs n place
-index_of_read numbers macs i place rise there is n here =
-    let inside = slice_get_within numbers i n here in
-    let own : slice_index numbers i ≡ n = get_or_from_slice_get numbers i n 0 here in
-    subst (λ m. IsIndex macs m place) own (index_at macs (slice_index numbers i) place rise (there (slice_index numbers i) (Contains-get_or numbers i 0 inside)) is)
+pub indexes_more : (copies : List CaughtFields) (macs : List (List ℕ)) (indexes new : List ℕ) (i own : ℕ) (c : CaughtFields) → length indexes ≡ i → new ≡ indexes ++ own ∷ [] → slice_get copies i ≡ Some c
+    → slice_get macs own ≡ Some c.copy.src → ((j k : ℕ) (x : CaughtFields) → slice_get copies j ≡ Some x → slice_get indexes j ≡ Some k → slice_get macs k ≡ Some x.copy.src) → (j k : ℕ) (x : CaughtFields)
+    → slice_get copies j ≡ Some x → slice_get new j ≡ Some k → slice_get macs k ≡ Some x.copy.src
+indexes_more copies macs indexes new i own c long is here own_is each j k x at_j index_j = by_case (slice_get_push indexes own k j (ap (λ l. slice_get l j) (sym is) ∙ index_j))
+  where
+    by_case : (slice_get indexes j ≡ Some k) ⊎ ((j ≡ length indexes) × (k ≡ own)) → slice_get macs k ≡ Some x.copy.src
+    by_case (inl old) = each j k x at_j old
+    by_case (inr last) =
+        let same : x ≡ c = same_Some x c (sym at_j ∙ ap (slice_get copies) (last.0 ∙ long) ∙ here) in
+        ap (slice_get macs) last.1 ∙ own_is ∙ ap (λ (y : CaughtFields). Some y.copy.src) (sym same)
 
 -- ---- an address among others
 
@@ -158,85 +156,156 @@ pub none_if : (macs : List (List ℕ)) (place : ℕ) (mac : List ℕ) (o : Optio
 none_if macs place mac None is at = λ rise has. index_none macs place mac (sym is) (at rise) rise has
 none_if macs place mac (Some k) is at = tt
 
--- one copy more
-pub numbers_more : (copies : List CaughtFields) (i : ℕ) (c : CaughtFields) (old new : List ℕ) (own : ℕ) → slice_get copies i ≡ Some c → old ≡ map source_number (take i copies) → new ≡ old ++ own ∷ []
-    → own ≡ source_number c → new ≡ map source_number (take (i + 1) copies)
-numbers_more copies i c old new own here old_is new_is own_is =
-    new_is ∙ ap (λ l. l ++ own ∷ []) old_is ∙ ap (λ n. map source_number (take i copies) ++ n ∷ []) own_is
-    ∙ sym (ap (map source_number) (take_more copies i c (slice_get_within copies i c here) ∙ ap (λ x. take i copies ++ x ∷ []) (get_or_from_slice_get copies i c c here))
-    ∙ map-append source_number (take i copies) (c ∷ []))
+-- ---- one address more
+
+inserted_at : {X : Type 0} (xs : List X) (n : ℕ) (x y : X) (k : ℕ) → n ≤ length xs → slice_get (take n xs ++ x ∷ drop n xs) k ≡ Some y
+    → ((k < n) × (slice_get xs k ≡ Some y)) ⊎ (((k ≡ n) × (y ≡ x)) ⊎ ((j : ℕ) × (k ≡ j + 1) × (n ≤ j) × (slice_get xs j ≡ Some y)))
+inserted_at xs zero x y zero within here = inr (inl (refl, same_Some y x (sym here)))
+inserted_at xs zero x y (suc j) within here = inr (inr (j, omega arith, omega arith, here))
+inserted_at [] (suc n) x y k within here = absurd (omega (arith, within))
+inserted_at (z ∷ xs) (suc n) x y zero within here = inl (omega arith, here)
+inserted_at {X} (z ∷ xs) (suc n) x y (suc k) within here = by_case (inserted_at xs n x y k (omega (arith, within)) here)
+  where
+    by_case : ((k < n) × (slice_get xs k ≡ Some y)) ⊎ (((k ≡ n) × (y ≡ x)) ⊎ ((j : ℕ) × (k ≡ j + 1) × (n ≤ j) × (slice_get xs j ≡ Some y)))
+        → ((suc k < suc n) × (slice_get (z ∷ xs) (suc k) ≡ Some y)) ⊎ (((suc k ≡ suc n) × (y ≡ x)) ⊎ ((j : ℕ) × (suc k ≡ j + 1) × (suc n ≤ j) × (slice_get (z ∷ xs) j ≡ Some y)))
+    by_case (inl before) = inl (omega (arith, before.0), before.1)
+    by_case (inr (inl own)) = inr (inl (ap suc own.0, own.1))
+    by_case (inr (inr behind)) = inr (inr (suc behind.0, omega (arith, behind.1), omega (arith, behind.2), behind.3))
+
+inserted_kept : {X : Type 0} (xs : List X) (n : ℕ) (x y : X) (j : ℕ) → slice_get xs j ≡ Some y → (k : ℕ) × (slice_get (take n xs ++ x ∷ drop n xs) k ≡ Some y)
+inserted_kept xs zero x y j here = (suc j, here)
+inserted_kept [] (suc n) x y j here = absurd (none-some y here)
+inserted_kept (z ∷ xs) (suc n) x y zero here = (zero, here)
+inserted_kept (z ∷ xs) (suc n) x y (suc j) here = let rest = inserted_kept xs n x y j here in (suc rest.0, rest.1)
+
+inserted_there : {X : Type 0} (xs : List X) (n : ℕ) (x : X) → n ≤ length xs → slice_get (take n xs ++ x ∷ drop n xs) n ≡ Some x
+inserted_there xs zero x within = refl
+inserted_there [] (suc n) x within = absurd (omega (arith, within))
+inserted_there (z ∷ xs) (suc n) x within = inserted_there xs n x (omega (arith, within))
+
+-- no address from its place on has a number, or a lesser one
+above_place : (macs : List (List ℕ)) (number place : ℕ) → Rise macs → IsPlace macs number place → stands_by number (slice_get macs place) ≡ false → (j : ℕ) (own : List ℕ) → place ≤ j
+    → slice_get macs j ≡ Some own → number < number_of own
+above_place macs number place rise at none j own from here = by_order (cases_order place j)
+  where
+    by_order : (place ≡ j) ⊎ ((place < j) ⊎ (j < place)) → number < number_of own
+    by_order (inl same) =
+        let other : (number_of own ≡ number → ⊥) = λ e. let is : true ≡ false = sym (eq-eqb (number_of own) number e) ∙ sym (ap (stands_by number) (ap (slice_get macs) same ∙ here)) ∙ none in absurd cc in
+        let more = at.above j own from here in
+        by_cases other more (cases_order number (number_of own))
+      where
+        by_cases : (number_of own ≡ number → ⊥) → number ≤ number_of own → (number ≡ number_of own) ⊎ ((number < number_of own) ⊎ (number_of own < number)) → number < number_of own
+        by_cases other more (inl is) = absurd (other (sym is))
+        by_cases other more (inr (inl less)) = less
+        by_cases other more (inr (inr over)) = absurd (omega (arith, over, more))
+    by_order (inr (inl before)) =
+        let inside = slice_get_within macs j own here in
+        let at_place = slice_get-get_or macs place own (omega (arith, before, inside)) in
+        let more = at.above place (get_or macs place own) (omega arith) at_place in
+        let less = rise place j (get_or macs place own) own before at_place here in
+        omega (arith, more, less)
+    by_order (inr (inr after)) = absurd (omega (arith, after, from))
+
+inserted_rise : (macs : List (List ℕ)) (mac : List ℕ) (place : ℕ) → place ≤ length macs → Rise macs → IsPlace macs (number_of mac) place → stands_by (number_of mac) (slice_get macs place) ≡ false
+    → Rise (take place macs ++ mac ∷ drop place macs)
+inserted_rise macs mac place within rise at none j k a b before at_j at_k = by_case (inserted_at macs place mac a j within at_j) (inserted_at macs place mac b k within at_k)
+  where
+    Cases : ℕ → List ℕ → Type 0
+    Cases n own = ((n < place) × (slice_get macs n ≡ Some own)) ⊎ (((n ≡ place) × (own ≡ mac)) ⊎ ((m : ℕ) × (n ≡ m + 1) × (place ≤ m) × (slice_get macs m ≡ Some own)))
+
+    by_case : Cases j a → Cases k b → number_of a < number_of b
+    by_case (inl x) (inl y) = rise j k a b before x.1 y.1
+    by_case (inl x) (inr (inl y)) = let less = at.below j a x.0 x.1 in omega (arith, less, ap number_of y.1)
+    by_case (inl x) (inr (inr y)) = rise j y.0 a b (omega (arith, x.0, y.2)) x.1 y.3
+    by_case (inr (inl x)) (inl y) = absurd (omega (arith, before, x.0, y.0))
+    by_case (inr (inl x)) (inr (inl y)) = absurd (omega (arith, before, x.0, y.0))
+    by_case (inr (inl x)) (inr (inr y)) = let more = above_place macs (number_of mac) place rise at none y.0 b y.2 y.3 in omega (arith, more, ap number_of x.1)
+    by_case (inr (inr x)) (inl y) = absurd (omega (arith, before, x.1, x.2, y.0))
+    by_case (inr (inr x)) (inr (inl y)) = absurd (omega (arith, before, x.1, x.2, y.0))
+    by_case (inr (inr x)) (inr (inr y)) = rise x.0 y.0 a b (omega (arith, before, x.1, y.1)) x.3 y.3
+
+-- an address was there
+pub with_old : (macs : List (List ℕ)) (mac : List ℕ) (place : ℕ) → stands_by (number_of mac) (slice_get macs place) ≡ true → Rise macs → IsWith macs mac macs
+with_old macs mac place stands rise = record {
+  rise = rise;
+  kept = λ j own here. (j, here);
+  there = by_own (slice_get macs place) refl;
+  from = λ k own here. inr (k, here);
+}
+  where
+    by_own : (o : Option (List ℕ)) → slice_get macs place ≡ o → (k : ℕ) × IsIndex macs (number_of mac) k
+    by_own None none = let is : false ≡ true = sym (ap (stands_by (number_of mac)) none) ∙ stands in absurd cc
+    by_own (Some own) here = (place, record { own = own; there = here; is = eqb-true (number_of own) (number_of mac) (sym (ap (stands_by (number_of mac)) here) ∙ stands) })
+
+-- or is put at its place
+pub with_new : (macs new : List (List ℕ)) (mac : List ℕ) (place : ℕ) → place ≤ length macs → new ≡ insert macs place mac → stands_by (number_of mac) (slice_get macs place) ≡ false → IsPlace macs (number_of mac) place
+    → Rise macs → IsWith macs mac new
+with_new macs new mac place within is none at rise = subst (IsWith macs mac) (sym is) (record {
+  rise = inserted_rise macs mac place within rise at none;
+  kept = λ j own here. inserted_kept macs place mac own j here;
+  there = (place, record { own = mac; there = inserted_there macs place mac within; is = refl });
+  from = λ k own here. by_case own (inserted_at macs place mac own k within here);
+})
+  where
+    by_case : (own : List ℕ) {k : ℕ} → ((k < place) × (slice_get macs k ≡ Some own)) ⊎ (((k ≡ place) × (own ≡ mac)) ⊎ ((m : ℕ) × (k ≡ m + 1) × (place ≤ m) × (slice_get macs m ≡ Some own)))
+        → (own ≡ mac) ⊎ ((j : ℕ) × (slice_get macs j ≡ Some own))
+    by_case own {k} (inl before) = inr (k, before.1)
+    by_case own {k} (inr (inl here)) = inl here.1
+    by_case own {k} (inr (inr behind)) = inr (behind.0, behind.3)
 
 -- ---- the whole
 
--- what a number is of
-counted_source : (copies : List CaughtFields) (numbers : List ℕ) (number : ℕ) → HaveAddresses copies → numbers ≡ map source_number copies → Contains numbers number
-    → IsSourceOf copies (address_of number) × (number_of (address_of number) ≡ number)
-counted_source copies numbers number addresses are has =
-    let at : slice_get numbers has.0 ≡ Some number = slice_get-get_or numbers has.0 number has.1 ∙ ap Some has.2 in
-    let own = mapped_from source_number copies has.0 number (ap (λ l. slice_get l has.0) (sym are) ∙ at) in
-    let back : address_of number ≡ own.0.copy.src = ap address_of own.2 ∙ address_back own.0.copy.src (addresses has.0 own.0 own.1) in
-    (record { place = has.0; copy = own.0; there = own.1; is = sym back }, ap number_of back ∙ sym own.2)
+pub macs_none : (copies : List CaughtFields) → AreMacs copies 0 []
+macs_none copies = record {
+  rise = λ j k a b before at_j at_k. absurd (none-some a at_j);
+  there = λ i c below here. absurd (omega (arith, below));
+  sources = λ k mac here. absurd (none-some mac here);
+}
 
--- the addresses of the numbers that were counted
-pub record AreMacs (copies : List CaughtFields) (numbers : List ℕ) (macs : List (List ℕ)) : Type 0 where
-  pub rise : Rise macs
-  pub there : AreThere numbers macs
-  pub sources : (k : ℕ) (mac : List ℕ) → slice_get macs k ≡ Some mac → IsSourceOf copies mac × (address_of (number_of mac) ≡ mac)
-
-pub macs_are : (copies : List CaughtFields) (numbers : List ℕ) (counts : List KeyCount) (macs : List (List ℕ)) → HaveAddresses copies → numbers ≡ map source_number copies → AreCountsOf numbers counts
-    → macs ≡ map mac_by counts → AreMacs copies numbers macs
-macs_are copies numbers counts macs addresses numbers_are are is = record {
-  rise = λ j k a b before a_j b_k.
-      let x = from j a a_j in
-      let y = from k b b_k in
-      let less = are.rise j k x.0 y.0 before x.1 y.1 in
-      omega (arith, less, number_is j a a_j, number_is k b b_k);
-  there = λ n has.
-      let own = are.all n has in
-      let there : slice_get macs own.0 ≡ Some (mac_by own.1) = ap (λ l. slice_get l own.0) is ∙ slice_get-map mac_by counts own.0 ∙ ap (option_map mac_by) own.2 in
-      (own.0, record { own = mac_by own.1; there = there; is = (counted_source copies numbers own.1.key addresses numbers_are (are.there own.0 own.1 own.2)).1 ∙ own.3 });
-  sources = λ k mac mac_k.
-      let own = from k mac mac_k in
-      (subst (IsSourceOf copies) (sym own.2) (counted_source copies numbers own.0.key addresses numbers_are (are.there k own.0 own.1)).0, ap address_of (number_is k mac mac_k) ∙ sym own.2);
+-- one copy more
+macs_with : (copies : List CaughtFields) (i : ℕ) (c : CaughtFields) (old new : List (List ℕ)) → slice_get copies i ≡ Some c → IsAddress c.copy.src → IsWith old c.copy.src new → AreMacs copies i old
+    → AreMacs copies (i + 1) new
+macs_with copies i c old new here address one are = record {
+  rise = one.rise;
+  there = λ j x below at_j. by_order j x at_j below (cases_order j i);
+  sources = λ k mac at_k. by_from mac (one.from k mac at_k);
 }
   where
-    from : (k : ℕ) (mac : List ℕ) → slice_get macs k ≡ Some mac → (own : KeyCount) × (slice_get counts k ≡ Some own) × (mac ≡ mac_by own)
-    from k mac mac_k = mapped_from mac_by counts k mac (ap (λ l. slice_get l k) (sym is) ∙ mac_k)
+    by_order : (j : ℕ) (x : CaughtFields) → slice_get copies j ≡ Some x → j < i + 1 → (j ≡ i) ⊎ ((j < i) ⊎ (i < j)) → (k : ℕ) × IsIndex new (source_number x) k
+    by_order j x at_j below (inl same) =
+        let its : c ≡ x = same_Some c x (sym here ∙ ap (slice_get copies) (sym same) ∙ at_j) in
+        subst (λ (y : CaughtFields). (k : ℕ) × IsIndex new (source_number y) k) its one.there
+    by_order j x at_j below (inr (inl before)) =
+        let was = are.there j x before at_j in
+        let now = one.kept was.0 was.1.own was.1.there in
+        (now.0, record { own = was.1.own; there = now.1; is = was.1.is })
+    by_order j x at_j below (inr (inr after)) = absurd (omega (arith, after, below))
 
-    number_is : (k : ℕ) (mac : List ℕ) (mac_k : slice_get macs k ≡ Some mac) → number_of mac ≡ (from k mac mac_k).0.key
-    number_is k mac mac_k = let own = from k mac mac_k in ap number_of own.2 ∙ (counted_source copies numbers own.0.key addresses numbers_are (are.there k own.0 own.1)).1
+    by_from : (mac : List ℕ) → (mac ≡ c.copy.src) ⊎ ((j : ℕ) × (slice_get old j ≡ Some mac)) → IsSourceOf copies mac × IsAddress mac
+    by_from mac (inl is) = (record { place = i; copy = c; there = here; is = sym is }, subst IsAddress (sym is) address)
+    by_from mac (inr was) = are.sources was.0 mac was.1
 
-pub sources_are : (copies : List CaughtFields) (numbers : List ℕ) (macs : List (List ℕ)) (indexes : List ℕ) → HaveAddresses copies → numbers ≡ map source_number copies → AreMacs copies numbers macs
-    → AreIndexes numbers macs indexes → AreSources copies macs indexes
-sources_are copies numbers macs indexes addresses numbers_are are indexed = record {
+-- the copy that was read
+pub macs_more : (copies : List CaughtFields) (i : ℕ) (c : CaughtFields) (mac : List ℕ) (old new : List (List ℕ)) → slice_get copies i ≡ Some c → mac ≡ c.copy.src → IsAddress mac → (Rise old → IsWith old mac new)
+    → AreMacs copies i old → AreMacs copies (i + 1) new
+macs_more copies i c mac old new here is address one are = macs_with copies i c old new here (subst IsAddress is address) (subst (λ m. IsWith old m new) is (one are.rise)) are
+
+macs_once : (macs : List (List ℕ)) → Rise macs → (j k : ℕ) (mac : List ℕ) → slice_get macs j ≡ Some mac → slice_get macs k ≡ Some mac → j ≡ k
+macs_once macs rise j k mac mac_j mac_k = by_order (cases_order j k)
+  where
+    by_order : (j ≡ k) ⊎ ((j < k) ⊎ (k < j)) → j ≡ k
+    by_order (inl same) = same
+    by_order (inr (inl before)) = let less = rise j k mac mac before mac_j mac_k in absurd (omega (arith, less))
+    by_order (inr (inr after)) = let less = rise k j mac mac after mac_k mac_j in absurd (omega (arith, less))
+
+pub sources_are : (copies : List CaughtFields) (macs : List (List ℕ)) (indexes : List ℕ) → AreMacs copies (length copies) macs → AreIndexes copies macs indexes → AreSources copies macs indexes
+sources_are copies macs indexes are indexed = record {
   there = λ k mac mac_k. (are.sources k mac mac_k).0;
   rise = are.rise;
-  each = λ i k c here index.
-      let number : slice_get numbers i ≡ Some (source_number c) = ap (λ l. slice_get l i) numbers_are ∙ slice_get-map source_number copies i ∙ ap (option_map source_number) here in
-      let its = indexed.each i (source_number c) k number index in
-      its.there ∙ ap Some (sym (are.sources k its.own its.there).1 ∙ ap address_of its.is ∙ address_back c.copy.src (addresses i c here));
-  once = λ j k mac mac_j mac_k. by_order j k mac mac_j mac_k (cases_order j k);
-  long = indexed.long ∙ ap length numbers_are ∙ length-map copies source_number;
+  each = λ i k c here index. indexed.each i k c here index;
+  once = macs_once macs are.rise;
+  long = indexed.long;
 }
-  where
-    by_order : (j k : ℕ) (mac : List ℕ) → slice_get macs j ≡ Some mac → slice_get macs k ≡ Some mac → (j ≡ k) ⊎ ((j < k) ⊎ (k < j)) → j ≡ k
-    by_order j k mac mac_j mac_k (inl same) = same
-    by_order j k mac mac_j mac_k (inr (inl before)) = let less = are.rise j k mac mac before mac_j mac_k in absurd (omega (arith, less))
-    by_order j k mac mac_j mac_k (inr (inr after)) = let less = are.rise k j mac mac after mac_k mac_j in absurd (omega (arith, less))
 
-pub many_sources : (copies : List CaughtFields) (numbers : List ℕ) (counts : List KeyCount) → HaveAddresses copies → numbers ≡ map source_number copies → AreCountsOf numbers counts → 1024 < length counts
-    → HasManySources copies
-many_sources copies numbers counts addresses numbers_are are many = record {
-  macs = map mac_by counts;
-  many = omega (arith, many, length-map counts mac_by);
-  there = λ k mac mac_k. (own.sources k mac mac_k).0;
-  once = λ j k mac mac_j mac_k. by_order j k mac mac_j mac_k (cases_order j k);
-}
-  where
-    own : AreMacs copies numbers (map mac_by counts)
-    own = macs_are copies numbers counts (map mac_by counts) addresses numbers_are are refl
-
-    by_order : (j k : ℕ) (mac : List ℕ) → slice_get (map mac_by counts) j ≡ Some mac → slice_get (map mac_by counts) k ≡ Some mac → (j ≡ k) ⊎ ((j < k) ⊎ (k < j)) → j ≡ k
-    by_order j k mac mac_j mac_k (inl same) = same
-    by_order j k mac mac_j mac_k (inr (inl before)) = let less = own.rise j k mac mac before mac_j mac_k in absurd (omega (arith, less))
-    by_order j k mac mac_j mac_k (inr (inr after)) = let less = own.rise k j mac mac after mac_k mac_j in absurd (omega (arith, less))
+pub many_sources : (copies : List CaughtFields) (i : ℕ) (macs : List (List ℕ)) → AreMacs copies i macs → 1024 < length macs → HasManySources copies
+many_sources copies i macs are many = record { macs = macs; many = many; there = λ k mac mac_k. (are.sources k mac mac_k).0; once = macs_once macs are.rise }

@@ -1,9 +1,8 @@
 -- Who sent frames: addresses as numbers.
-use Rattle.std.specs.Prelude.{ℕ, ◌≡◌, ◌<◌, ◌≤◌, if◌then◌else◌, List, length, slice_get, Contains, Option, Some, None}
-use Rattle.hsr_address.specs.Numbers.{address_of, number_of}
+use Rattle.std.specs.Prelude.{ℕ, ◌≡◌, ◌<◌, ◌≤◌, ◌==◌, ◌⊎◌, Bool, false, if◌then◌else◌, List, length, slice_get, Option, Some, None}
+use Rattle.hsr_address.specs.Numbers.{number_of}
 use Rattle.hsr_frame.specs.Address.{IsAddress, is_same_address}
 use Rattle.hsr_frame_groups.specs.Frames.{CaughtFields}
-use Rattle.hsr_health.specs.declared.by_key.KeyCount.{KeyCount}
 
 -- an address is that of a copy's source
 pub record IsSourceOf (copies : List CaughtFields) (mac : List ℕ) : Type 0 where
@@ -23,12 +22,6 @@ pub record HasManySources (copies : List CaughtFields) : Type 0 where
 
 abbrev pub source_number : CaughtFields → ℕ
 source_number c = number_of c.copy.src
-
-abbrev pub HaveAddresses : List CaughtFields → Type 0
-HaveAddresses copies = (i : ℕ) (c : CaughtFields) → slice_get copies i ≡ Some c → IsAddress c.copy.src
-
-abbrev pub mac_by : KeyCount → List ℕ
-mac_by own = address_of own.key
 
 -- addresses rise
 abbrev pub Rise : List (List ℕ) → Type 0
@@ -52,13 +45,28 @@ pub record IsIndex (macs : List (List ℕ)) (number k : ℕ) : Type 0 where
   pub there : slice_get macs k ≡ Some own
   pub is : number_of own ≡ number
 
--- each of these numbers is that of an address
-abbrev pub AreThere : List ℕ → List (List ℕ) → Type 0
-AreThere numbers macs = (n : ℕ) → Contains numbers n → (k : ℕ) × IsIndex macs n k
+-- whether this is an address with a number
+abbrev pub stands_by : ℕ → Option (List ℕ) → Bool
+stands_by number None = false
+stands_by number (Some own) = number_of own == number
 
-pub record AreIndexes (numbers : List ℕ) (macs : List (List ℕ)) (indexes : List ℕ) : Type 0 where
-  pub each : (i n k : ℕ) → slice_get numbers i ≡ Some n → slice_get indexes i ≡ Some k → IsIndex macs n k
-  pub long : length indexes ≡ length numbers
+-- addresses in order are others with one more, which may have been among them
+pub record IsWith (before : List (List ℕ)) (mac : List ℕ) (macs : List (List ℕ)) : Type 0 where
+  pub rise : Rise macs
+  pub kept : (j : ℕ) (own : List ℕ) → slice_get before j ≡ Some own → (k : ℕ) × (slice_get macs k ≡ Some own)
+  pub there : (k : ℕ) × IsIndex macs (number_of mac) k
+  pub from : (k : ℕ) (own : List ℕ) → slice_get macs k ≡ Some own → (own ≡ mac) ⊎ ((j : ℕ) × (slice_get before j ≡ Some own))
+
+-- the addresses of so many of the copies, in order
+pub record AreMacs (copies : List CaughtFields) (many : ℕ) (macs : List (List ℕ)) : Type 0 where
+  pub rise : Rise macs
+  pub there : (i : ℕ) (c : CaughtFields) → i < many → slice_get copies i ≡ Some c → (k : ℕ) × IsIndex macs (source_number c) k
+  pub sources : (k : ℕ) (mac : List ℕ) → slice_get macs k ≡ Some mac → IsSourceOf copies mac × IsAddress mac
+
+-- of each copy the index of its source
+pub record AreIndexes (copies : List CaughtFields) (macs : List (List ℕ)) (indexes : List ℕ) : Type 0 where
+  pub each : (i k : ℕ) (c : CaughtFields) → slice_get copies i ≡ Some c → slice_get indexes i ≡ Some k → slice_get macs k ≡ Some c.copy.src
+  pub long : length indexes ≡ length copies
 
 -- an index, if an address stands there
 abbrev pub index_by : ℕ → List ℕ → Option (List ℕ) → Option ℕ

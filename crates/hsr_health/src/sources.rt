@@ -1,12 +1,11 @@
 //! Who sent frames.
-ghost use Rattle.std.specs.Prelude.{◌≡◌, ◌-◌, ◌<◌, ◌≤◌, ℕ, Contains, List, length, map, nat_lt, slice_get, IfNone, IfOk, IfSome, OnOk, Some};
+ghost use Rattle.std.specs.Prelude.{◌≡◌, ◌-◌, ◌<◌, ◌≤◌, ℕ, Contains, List, length, nat_lt, slice_get, IfNone, IfOk, IfSome, OnOk, Some};
 ghost use Rattle.hsr_frame.specs.Address.{IsAddress, is_same_address};
 ghost use Rattle.hsr_health.specs.Counted.{AreSources};
-ghost use Rattle.hsr_health.specs.Sources.{AreIndexes, AreThere, HasManySources, HaveAddresses, IsPart, IsPlace, Rise, index_if, mac_by, source_number};
+ghost use Rattle.hsr_health.specs.Sources.{AreIndexes, AreMacs, HasManySources, IsPart, IsPlace, IsWith, Rise, index_if, stands_by};
 ghost use Rattle.hsr_address.specs.Numbers.{number_of};
 
-use crate::by_key::{KeyCount, counts_by_key};
-use hsr_address::{mac_of, number_of};
+use hsr_address::number_of;
 use hsr_frame::{Mac, NoMemory};
 use hsr_frame_groups::Caught;
 use std::alloc::Global;
@@ -21,24 +20,11 @@ pub(crate) struct Sources {
     pub(crate) of_copy: Vec<u16>,
 }
 
-/// The source of a copy, as a number.
-fn source_of(caught: &Caught<'_>) -> u64
-    ensures number { result ≡ source_number caught.now }
-    ensures address { IsAddress caught.now.copy.src }
+/// The source of a copy.
+fn source_of(caught: &Caught<'_>) -> Mac
+    ensures { result ≡ caught.now.copy.src }
 {
-    number_of(caught.copy().src)
-}
-
-/// The sources of copies, as numbers.
-fn numbers_of(alloc: Global, copies: &[Caught<'_>]) -> Result<Vec<u64>, NoMemory>
-    ensures numbers { IfOk result (λ numbers. numbers.items ≡ map source_number copies.now) }
-    ensures addresses { OnOk result (HaveAddresses copies.now) }
-{
-    let mut numbers = Vec::new(alloc);
-    for i in 0..copies.len() {
-        numbers.push(source_of(&copies[i]))?;
-    }
-    Ok(numbers)
+    caught.copy().src
 }
 
 /// Whether the address at an index has a lesser number than another.
@@ -94,34 +80,59 @@ fn place_of(macs: &[Mac], number: u64) -> usize
     part.low
 }
 
-/// Of each number the index of its address.
-fn indexes_of(alloc: Global, numbers: &[u64], macs: &[Mac]) -> Result<Vec<u16>, NoMemory>
-    requires { length macs.now ≤ 1024 }
-    ensures { IfOk result (λ indexes. Rise macs.now → AreThere numbers.now macs.now → AreIndexes numbers.now macs.now indexes.items) }
+/// Whether an address with a number stands at a place.
+fn stands_at(macs: &[Mac], place: usize, number: u64) -> bool
+    ensures { result ≡ stands_by number (slice_get macs.now place) }
 {
-    let mut indexes = Vec::new(alloc);
-    for i in 0..numbers.len() {
-        indexes.push(place_of(macs, numbers[i]) as u16)?;
+    match macs.get(place) {
+        None => false,
+        Some(own) => number_of(*own) == number,
+    }
+}
+
+/// Puts an address among others in order, if it isn't there.
+fn put_mac(macs: &mut Vec<Mac>, mac: Mac) -> Result<(), NoMemory>
+    ensures address { OnOk result (IsAddress mac) }
+    ensures with { OnOk result (Rise macs.old.items → IsWith macs.old.items mac macs.new.items) }
+{
+    let number = number_of(mac);
+    let place = place_of(macs.as_slice(), number);
+    if stands_at(macs.as_slice(), place, number) {
+        return Ok(());
+    }
+    macs.insert(place, mac)?;
+    Ok(())
+}
+
+/// The addresses that copies were sent by, in order; none where there are too many.
+fn macs_of(alloc: Global, copies: &[Caught<'_>]) -> Result<Option<Vec<Mac>>, NoMemory>
+    ensures some { IfOk result (λ found. IfSome found (λ macs. AreMacs copies.now (length copies.now) macs.items)) }
+    ensures few { IfOk result (λ found. IfSome found (λ macs. length macs.items ≤ 1024)) }
+    ensures none { IfOk result (λ found. IfNone found (HasManySources copies.now)) }
+{
+    // Each is put in its place as it comes: to sort the addresses of all copies takes 24 octets a copy.
+    let mut macs = Vec::new(alloc);
+    for i in 0..copies.len() {
+        put_mac(&mut macs, source_of(&copies[i]))?;
+        if macs.len() > MOST_SOURCES {
+            return Ok(None);
+        }
+    }
+    Ok(Some(macs))
+}
+
+/// Of each copy the index of its source among the addresses of all.
+fn indexes_of(alloc: Global, copies: &[Caught<'_>], macs: &[Mac]) -> Result<Vec<u16>, NoMemory>
+    requires few { length macs.now ≤ 1024 }
+    requires macs { AreMacs copies.now (length copies.now) macs.now }
+    ensures { IfOk result (λ indexes. AreIndexes copies.now macs.now indexes.items) }
+{
+    let mut indexes = Vec::with_capacity(alloc, copies.len())?;
+    for i in 0..copies.len() {
+        let number = number_of(source_of(&copies[i]));
+        indexes.push(place_of(macs, number) as u16)?;
     }
     Ok(indexes)
-}
-
-/// The addresses of numbers.
-fn macs_of(alloc: Global, counts: &[KeyCount]) -> Result<Vec<Mac>, NoMemory>
-    ensures { IfOk result (λ macs. macs.items ≡ map mac_by counts.now) }
-{
-    let mut macs = Vec::new(alloc);
-    for own in counts {
-        macs.push(mac_of(own.key))?;
-    }
-    Ok(macs)
-}
-
-/// Whether there are too many of them.
-fn is_over(counts: &[KeyCount]) -> bool
-    ensures { result ≡ nat_lt 1024 (length counts.now) }
-{
-    counts.len() > MOST_SOURCES
 }
 
 /// The sources of copies; none where there are too many.
@@ -130,14 +141,10 @@ pub(crate) fn sources_of(alloc: Global, copies: &[Caught<'_>]) -> Result<Option<
     ensures few { IfOk result (λ found. IfSome found (λ s. length s.macs.items ≤ 1024)) }
     ensures none { IfOk result (λ found. IfNone found (HasManySources copies.now)) }
 {
-    let mut numbers = numbers_of(alloc, copies)?;
-    let of_copies = Vec::from_slice(alloc, numbers.as_slice())?;
-    let counts = counts_by_key(alloc, &mut numbers)?;
-    if is_over(counts.as_slice()) {
+    let Some(macs) = macs_of(alloc, copies)? else {
         return Ok(None);
-    }
-    let macs = macs_of(alloc, counts.as_slice())?;
-    let of_copy = indexes_of(alloc, of_copies.as_slice(), macs.as_slice())?;
+    };
+    let of_copy = indexes_of(alloc, copies, macs.as_slice())?;
     Ok(Some(Sources { macs, of_copy }))
 }
 

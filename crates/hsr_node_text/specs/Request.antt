@@ -49,6 +49,13 @@ port_in place [] = None
 port_in place (c ∷ []) = port_of place c
 port_in place (c ∷ d ∷ cs) = None
 
+-- a port that the place has, by the first word, and the words behind it
+abbrev pub port_at : Place → Option (List ℕ) → Option (ℕ × Option (List ℕ))
+port_at place words = do
+  letter ← word_at words
+  port ← port_in place letter.0
+  Some (port, letter.1)
+
 -- <at> <dst> <type4> <payload> [<vlan4>]
 abbrev pub send_in : TimeUnit → Option (List ℕ) → Option Request
 send_in unit words = do
@@ -76,10 +83,9 @@ abbrev pub arrival_in : Setting → Option (List ℕ) → Option Request
 arrival_in setting words = do
   at ← word_at words
   moment ← moment_of setting.unit at.0
-  letter ← word_at at.1
-  port ← port_in setting.place letter.0
-  octets ← last_octets letter.1
-  Some (record { at = moment; event = Arrive port (record { probe = None; octets = octets }) })
+  port ← port_at setting.place at.1
+  octets ← last_octets port.1
+  Some (record { at = moment; event = Arrive port.0 (record { probe = None; octets = octets }) })
 
 -- <at>
 abbrev pub age_in : TimeUnit → Option (List ℕ) → Option Request

@@ -5,7 +5,7 @@ ghost use Rattle.hsr_node_text.specs.Reply.{answer_of, answer_to, outcome_text, 
 
 use crate::reply::{put_outcome, put_refused, refusal_code};
 use crate::request::{Request, Setting, read_request};
-use hsr_node::{Event, Node, Outcome, Place, StepFault};
+use hsr_node::{Event, Node, Octets, Outcome, Place, StepFault};
 use hsr_text::WordFault;
 use std::alloc::Global;
 use std::mem;
@@ -59,8 +59,15 @@ fn answer_request<const C: usize>(
     }
 }
 
-/// The room that an event's octets have for themselves.
-fn room_of(event: Event) -> Option<Vec<u8>> {
+/// Takes the room that octets have for themselves, if they have such.
+fn take_back(room: &mut Vec<u8>, octets: Octets) {
+    if let Some(own) = octets.into_room() {
+        *room = own;
+    }
+}
+
+/// Takes the room that an event's octets have for themselves back, if they have such.
+fn put_back(room: &mut Vec<u8>, event: Event) {
     match event {
         Event::Send {
             from: _,
@@ -68,16 +75,9 @@ fn room_of(event: Event) -> Option<Vec<u8>> {
             vlan: _,
             kind: _,
             payload,
-        } => payload.into_room(),
-        Event::Arrive { port: _, carried } => carried.octets.into_room(),
-        _ => None,
-    }
-}
-
-/// Puts the room that an event's octets have for themselves back, if they have such.
-fn put_back(room: &mut Vec<u8>, event: Event) {
-    if let Some(own) = room_of(event) {
-        *room = own;
+        } => take_back(room, payload),
+        Event::Arrive { port: _, carried } => take_back(room, carried.octets),
+        _ => {}
     }
 }
 

@@ -21,15 +21,22 @@ fn put_spelled(text: &mut Vec<u8>, spelled: &Spelled<'_>) -> Result<(), NoMemory
     put_hex(text, rest)
 }
 
-/// Puts the line of an egress with the octets that leave by it.
-fn put_leaving(text: &mut Vec<u8>, egress: &[u8], octets: &Spelled<'_>) -> Result<(), NoMemory>
-    ensures { OnOk result (text.new.items
-        ≡ text.old.items ++ leaving_text egress.now (Some octets.now)) }
+/// Ends a line.
+fn end_line(text: &mut Vec<u8>) -> Result<(), NoMemory>
+    ensures { OnOk result (text.new.items ≡ text.old.items ++ codes "\n") }
 {
-    put_octets(text, egress)?;
+    // One octet is pushed, since to copy a slice of one takes several times as long.
+    text.push(b'\n')?;
+    Ok(())
+}
+
+/// Puts the octets that leave by an egress behind its name, and ends the line.
+fn put_leaving(text: &mut Vec<u8>, octets: &Spelled<'_>) -> Result<(), NoMemory>
+    ensures { OnOk result (text.new.items ≡ text.old.items ++ leaving_text [] (Some octets.now)) }
+{
     text.push(b' ')?;
     put_spelled(text, octets)?;
-    put(text, "\n")
+    end_line(text)
 }
 
 /// Puts the line of a port with the octets that leave by it, if some do.
@@ -46,8 +53,8 @@ fn put_copy(
     match spelled_out(place, event, outcome, port) {
         None => Ok(()),
         Some(octets) => {
-            let letter = [place.letter(port)];
-            put_leaving(text, letter.as_slice(), &octets)
+            text.push(place.letter(port))?;
+            put_leaving(text, &octets)
         }
     }
 }
@@ -60,7 +67,10 @@ fn put_up(text: &mut Vec<u8>, event: &Event, outcome: &Outcome) -> Result<(), No
     // An outcome holds no frame, so what goes up is read anew from the octets that came.
     match spelled_up(event, outcome) {
         None => Ok(()),
-        Some(octets) => put_leaving(text, b"up", &octets),
+        Some(octets) => {
+            put(text, "up")?;
+            put_leaving(text, &octets)
+        }
     }
 }
 
@@ -122,8 +132,9 @@ fn put_port(text: &mut Vec<u8>, place: &Place, ports: &[bool; 4], port: u8) -> R
     if !ports.get(usize::from(port)).copied().unwrap_or(false) {
         return Ok(());
     }
-    let word = [b' ', place.letter(port)];
-    put_octets(text, word.as_slice())
+    text.push(b' ')?;
+    text.push(place.letter(port))?;
+    Ok(())
 }
 
 /// Puts the number of a fault behind a space, if there is one.
@@ -151,7 +162,7 @@ fn put_other_ports(text: &mut Vec<u8>, place: &Place, ports: &[bool; 4]) -> Resu
 {
     put_port(text, place, ports, 2)?;
     put_port(text, place, ports, 3)?;
-    put(text, "\n")
+    end_line(text)
 }
 
 /// Puts the egresses of an arrival, up and then the ports by their numbers, and ends the line.
@@ -177,7 +188,7 @@ fn put_outcome_line(text: &mut Vec<u8>, place: &Place, outcome: &Outcome) -> Res
         Outcome::Sent { seq, ports: _ } => {
             text.extend_from_slice(b"sent ")?;
             put_number(text, *seq)?;
-            put(text, "\n")
+            end_line(text)
         }
         Outcome::Life {
             seq,
@@ -186,7 +197,7 @@ fn put_outcome_line(text: &mut Vec<u8>, place: &Place, outcome: &Outcome) -> Res
         } => {
             put_count(text, b"life ", u64::from(*seq))?;
             put_count(text, b" ", u64::from(*life))?;
-            put(text, "\n")
+            end_line(text)
         }
         Outcome::Judged {
             up,
@@ -241,7 +252,7 @@ pub fn put_refused(text: &mut Vec<u8>, code: u8) -> Result<(), NoMemory>
     ensures { OnOk result (text.new.items ≡ text.old.items ++ refused_text code) }
 {
     put_count(text, b"refused ", u64::from(code))?;
-    put(text, "\n")
+    end_line(text)
 }
 
 /// Puts how often a node sent, and what of what came it passed.
@@ -262,7 +273,7 @@ fn put_stopped(text: &mut Vec<u8>, counters: &Counters) -> Result<(), NoMemory>
     put_count(text, b" duplicate ", counters.duplicate)?;
     put_count(text, b" returned ", counters.returned)?;
     put_count(text, b" dropped ", counters.dropped())?;
-    put(text, "\n")
+    end_line(text)
 }
 
 /// Puts the line of a node's counters.

@@ -1,7 +1,7 @@
 //! What an input line of `node` asks for.
 ghost use Rattle.std.specs.Prelude.{◌≡◌, option_map};
 ghost use Rattle.hsr_text.specs.Words.{Gives};
-ghost use Rattle.hsr_node_text.specs.Request.{about_of, age_in, arrival_in, last_word, life_in, port_in, request_of, send_in, vlan_of};
+ghost use Rattle.hsr_node_text.specs.Request.{about_of, age_in, arrival_in, last_word, life_in, port_at, port_in, request_of, send_in, vlan_of};
 
 use hsr_frame::{About, Mac};
 use hsr_node::{Carried, Event, Octets, Place};
@@ -67,6 +67,24 @@ fn port_in(place: &Place, word: &[u8]) -> Option<u8>
     }
 }
 
+/// The number of the port whose letter words begin with, where the place has it, and the words behind it.
+fn read_port<'a>(place: &Place, words: Option<&'a [u8]>) -> Option<(u8, Option<&'a [u8]>)>
+    ensures { option_map (λ p. (p.0, option_map (λ s. s.now) p.1)) result ≡ port_at place.now (option_map (λ s. s.now) words.entry) }
+{
+    match words {
+        // A letter and a space stand in each good line: they are looked at as they are, with no search for the end of a word.
+        Some([letter, b' ', rest @ ..]) if *letter != b' ' => {
+            let port = place.port(*letter)?;
+            Some((port, Some(rest)))
+        }
+        _ => {
+            let (letter, rest) = short_word(words)?;
+            let port = port_in(place, letter)?;
+            Some((port, rest))
+        }
+    }
+}
+
 /// Reads `<at> <dst> <type4> <payload> [<vlan4>]`. The payload takes this room.
 fn read_send(room: Vec<u8>, unit: TimeUnit, rest: Option<&[u8]>) -> Result<Request, WordFault>
     ensures { Gives (λ r. r) result (send_in unit (option_map (λ s. s.now) rest.entry)) }
@@ -109,8 +127,7 @@ fn read_arrival(room: Vec<u8>, setting: &Setting, rest: Option<&[u8]>) -> Result
 {
     let (digits, rest) = short_word(rest).ok_or(WordFault::Bad)?;
     let at = setting.unit.read(digits).ok_or(WordFault::Bad)?;
-    let (letter, rest) = short_word(rest).ok_or(WordFault::Bad)?;
-    let port = port_in(&setting.place, letter).ok_or(WordFault::Bad)?;
+    let (port, rest) = read_port(&setting.place, rest).ok_or(WordFault::Bad)?;
     // No space is searched for: it is no digit, so with one behind the digits these octets spell nothing.
     let digits = rest.ok_or(WordFault::Bad)?;
     let octets = Octets::new(hex_octets_in(room, digits)?);

@@ -1,11 +1,11 @@
 use Rattle.std.proofs.Common.{◌≡◌, ℕ, Some, length}
 use Rattle.std.specs.Prelude.{slice_get}
-use Rattle.hsr_health.specs.Sources.{AreThere, IsIndex, Rise}
+use Rattle.hsr_frame_groups.specs.Frames.{CaughtFields}
 use Rattle.hsr_health.proofs.sources.indexes_of.Given as goal
 
--- of each number so far
+-- of each copy so far
 abbrev pub invariant-loop-i : goal.invariant-loop-i
 invariant-loop-i l = record {
   long : length l.indexes.items ≡ l.i;
-  each : Rise l.macs → AreThere l.numbers l.macs → (j n k : ℕ) → slice_get l.numbers j ≡ Some n → slice_get l.indexes.items j ≡ Some k → IsIndex l.macs n k;
+  each : (j k : ℕ) (c : CaughtFields) → slice_get l.copies j ≡ Some c → slice_get l.indexes.items j ≡ Some k → slice_get l.macs k ≡ Some c.copy.src;
 }

@@ -1,6 +1,10 @@
-use Rattle.std.proofs.Common.{◌≡◌, map, take}
-use Rattle.hsr_health.specs.Sources.{mac_by}
+use Rattle.std.proofs.Common.{◌≤◌, length}
+use Rattle.hsr_health.specs.Sources.{AreMacs}
 use Rattle.hsr_health.proofs.sources.macs_of.Given as goal
 
-abbrev pub invariant-loop-own : goal.invariant-loop-own
-invariant-loop-own l = l.macs.items ≡ map mac_by (take l.own-index l.counts)
+-- those of the copies so far
+abbrev pub invariant-loop-i : goal.invariant-loop-i
+invariant-loop-i l = record {
+  macs : AreMacs l.copies l.i l.macs.items;
+  few : length l.macs.items ≤ 1024;
+}
