@@ -45,3 +45,4 @@ pub use fault::{CaptureFault, ReadFault, Refusal};
 pub use fields::{Interface, Losses, Packet, Way};
 pub use law::written_is_read;
 pub use numbers::ByteOrder;
+pub use rooms::give_back;

@@ -86,11 +86,12 @@ fn packet_by<'a>(file: &'a [u8], before: usize, room: Room) -> Packet<'a>
     }
 }
 
-/// How many rooms go before their memory is given back.
+/// How many entries go before their memory is given back.
 const AT_ONCE: usize = 65_536;
 
-/// Gives back the memory of rooms that went, now and then: each time costs a call of the system.
-fn give_back(left: &mut Vec<Room>)
+/// Gives back the memory of entries that went from the end of a list, now and then: each time costs a call of the system. The list stays as
+/// it is.
+pub fn give_back<T>(left: &mut Vec<T>)
     ensures { left.new.items ≡ left.old.items }
 {
     if left.len() % AT_ONCE == 0 {

@@ -102,6 +102,7 @@ fn is_heard_by(
     asked.node == other_node(topology, link, is_first)
         && is_from(address_at(topology.places(), asked.node, asked.from), mac)
         && span.end <= index
+        // Asked before the cuts, which it would take on to a span that doesn't count.
         && was_lately(orders, index, span)
         && !is_down(topology, orders, cuts, span, link)
 }

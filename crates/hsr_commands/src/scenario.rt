@@ -27,6 +27,7 @@ use hsr_table_size::{TableSize, at_size};
 use hsr_topology::Topology;
 use std::alloc::Global;
 use std::io::{Read, Write};
+use std::mem;
 
 /// A scenario that was played: the world to which it leads, and its nodes and links.
 #[derive(Drop)]
@@ -157,7 +158,13 @@ fn reported<const C: usize>(
         Err(fault) => return Err(fault),
     };
     match reached.world.close() {
-        Ok(closed) => finished(alloc, octets, &closed, showing, folder, notes),
+        Ok(closed) => {
+            let shown = finished(alloc, octets, &closed, showing, folder, notes);
+            // The program ends with what is shown, and all its memory goes back at once: to free each copy of the run first takes as
+            // long as to look what was forgotten.
+            mem::forget(closed);
+            shown
+        }
         Err((world, fault)) => {
             let places = reached.topology.places();
             left_open(

@@ -8,7 +8,7 @@ pub record Marked : Type 0 where
   pub is_wrong_size : Bool
   pub is_wrong_lane : Bool
 
--- with one more bit, as the lowest
+-- one more answer, as the lowest digit of a number of zeros and ones
 abbrev pub with_bit : ℕ → Bool → ℕ
 with_bit bits true = bits * 2 + 1
 with_bit bits false = bits * 2

@@ -56,6 +56,8 @@ impl Link {
 
     /// Puts a copy, and tells what became of it: Queued, LostDown on a cut link, or LostOverrun where its queue is
     /// full. `NoMemory` if allocation fails: then nothing changes, and the copy comes back.
+    // Inline, as `add` and `queue::enter` are: each call would pass the copy and its way back through memory.
+    #[inline(always)]
     pub fn put(&mut self, dir: Dir, carried: Carried) -> Result<Fate, (Carried, NoMemory)>
         ensures ok { IfOk result (λ fate. (fate, self.new) ≡ put_step self.old dir carried) }
         ensures err { IfErr result (λ e. (self.new ≡ self.old) × (e.0 ≡ carried)) }
@@ -73,6 +75,7 @@ impl Link {
     }
 
     /// Adds the row of a copy that was put or injected, and lets the copy wait if it is Queued.
+    #[inline(always)]
     pub(crate) fn add(
         &mut self,
         dir: Dir,

@@ -9,7 +9,7 @@ ghost use Rattle.hsr_link.specs.declared.row.Dir.TheVariants.{Forth, Back};
 use crate::row::{Dir, Fate, Row};
 use circular_buffer::HeapCircularBuffer;
 use hsr_frame::NoMemory;
-use hsr_node::Carried;
+use hsr_node::{Carried, make_room};
 
 /// The index of a row, and the copy that a take gives, so that it needs no memory.
 #[derive(Drop)]
@@ -52,6 +52,7 @@ fn queue_up(
 }
 
 /// Adds a row, whose copy waits in the queue of its direction if it is queued.
+#[inline(always)]
 #[tactic(auto, using(crate::proofs::Waiting::waiting_push))]
 pub(crate) fn enter(
     queue: &mut HeapCircularBuffer<Waiting>,
@@ -67,7 +68,7 @@ pub(crate) fn enter(
         × (e.0 ≡ row.carried)) }
 {
     // All that may be refused comes before the first change.
-    if rows.reserve(1).is_err() {
+    if make_room(rows).is_err() {
         return Err((row.carried, NoMemory));
     }
     if queue_up(queue, rows.len(), &row).is_err() {

@@ -143,6 +143,8 @@ fn passed<'a>(place: &Place, event: &'a Event, outcome: &Outcome, port: u8) -> O
 /// The octets that leave a place by a port after an event with this outcome, if some do: of a frame of the node's own,
 /// and of one between an interlink and a ring, those of the frame as it leaves there; from ring to ring the octets as
 /// they came (IEC 62439-3 clause 5.3). What stands in the event is not copied.
+// Inline, since a call would pass the pieces through memory.
+#[inline(always)]
 #[tactic(auto, unfolding(crate::specs::Copies::copy_octets))]
 pub fn spelled_out<'a>(
     place: &Place,

@@ -61,6 +61,7 @@ impl Event {
 
     /// The octets that came, where they are these, in the room in which they stand. `None` where none came, where they are
     /// others, and where they can't be shared.
+    #[inline(always)]
     pub fn came_as(&self, spelled: &Spelled<'_>) -> Option<Octets>
         ensures { IfSome result (λ octets. octets ≡ spelled.now) }
     {

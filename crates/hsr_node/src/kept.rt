@@ -6,6 +6,7 @@ ghost use Rattle.hsr_frame.specs.Counters.{AreWithin};
 
 use crate::entry::{Entry, Receipt};
 use crate::event::{Event, Outcome, StepFault};
+use crate::growing::make_room;
 use crate::node::Node;
 use crate::place::Place;
 use hsr_frame::{Counters, NoMemory};
@@ -67,6 +68,8 @@ impl<const C: usize> Kept<C> {
     /// moment and the event as they are given, and what the machine answers that remembers, of its whole record, the
     /// youngest unexpired passed frames up to `C`. The answer names the place of the entry, and nothing is copied. A refusal
     /// hands the event back and changes nothing: `NoMemory`, or what that machine refuses it for.
+    // Events are long, and a call would copy one to memory and back.
+    #[inline(always)]
     pub fn enter(
         &mut self,
         worker: u16,
@@ -83,7 +86,7 @@ impl<const C: usize> Kept<C> {
         ensures refused { IfErr result (λ e. (self.new ≡ self.old) × (e.0 ≡ event)) }
     {
         // Room first: after the node's step nothing may fail.
-        if self.entries.reserve(1).is_err() {
+        if make_room(&mut self.entries).is_err() {
             return Err((event, StepFault::NoMemory));
         }
         let outcome = match self.node.apply(at, &event) {

@@ -7,6 +7,7 @@
 //! - `event`: what happens to a node, and what it answers
 //! - `refusal`: why a node refuses an event, as a word
 //! - `entry`: what a record holds
+//! - `growing`: room in lists that only grow
 //! - `station`: a node that sends plain frames
 //! - `port`: the ports of a node by their numbers
 //! - `danh`: the events of a DANH
@@ -27,6 +28,7 @@ mod copies;
 mod danh;
 mod entry;
 mod event;
+mod growing;
 mod kept;
 mod node;
 mod octets;
@@ -48,6 +50,7 @@ pub use copies::{
 };
 pub use entry::{Entry, Receipt};
 pub use event::{Carried, Event, Outcome, Probe, StepFault};
+pub use growing::make_room;
 pub use kept::{Answer, Kept, holds_what_is_told};
 pub use node::Node;
 pub use octets::Octets;

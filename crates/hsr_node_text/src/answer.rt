@@ -82,8 +82,9 @@ fn put_back(room: &mut Vec<u8>, event: Event) {
 }
 
 /// Answers a line, without its line feed, by a node of this kind: makes a text the lines that answer it.
-/// What the text held goes, and the room for the line's octets is used anew: the same for each line, it mostly takes no new memory. `Bad` exactly where the line is bad, or is none of this kind of node (RULES, Lines of `node`). `Memory`
-/// if allocation fails: the node may have done what the line asks for, and the text has a front of the answer at most.
+/// What the text held goes, and the room for the line's octets is used anew: the same for each line, it mostly takes no new memory.
+/// `Bad` exactly where the line is bad, or is none of this kind of node (RULES, Lines of `node`). `Memory` if allocation fails: the node may
+/// have done what the line asks for, and the text has a front of the answer at most.
 pub fn answer_line<const C: usize>(
     alloc: Global,
     setting: &Setting,

@@ -77,6 +77,7 @@ fn read_port<'a>(place: &Place, words: Option<&'a [u8]>) -> Option<(u8, Option<&
             let port = place.port(*letter)?;
             Some((port, Some(rest)))
         }
+        // A line may end here, or begin with a space or a longer word: the words then say whether it is good.
         _ => {
             let (letter, rest) = short_word(words)?;
             let port = port_in(place, letter)?;
@@ -121,6 +122,8 @@ fn read_life(unit: TimeUnit, rest: Option<&[u8]>) -> Result<Request, WordFault>
 }
 
 /// Reads `<at> <port> <octets>`, with the letter of a port that the node has. The octets take this room.
+// Inline, as `read_request` is: most lines are arrivals, and each call would pass what a line asks for through memory.
+#[inline(always)]
 #[tactic(auto, using(crate::proofs::LastOctets::spelled_by_all))]
 fn read_arrival(room: Vec<u8>, setting: &Setting, rest: Option<&[u8]>) -> Result<Request, WordFault>
     ensures { Gives (λ r. r) result (arrival_in setting.now (option_map (λ s. s.now) rest.entry)) }
@@ -173,6 +176,7 @@ fn read_by_verb(room: Vec<u8>, setting: &Setting, line: &[u8]) -> Result<Request
 /// Reads a line for a node of this kind, without its line feed. The octets of an arrival or a payload take this room.
 /// `Bad` where it is no line of `node` (RULES, Lines of `node`); `Memory` where room for its octets is refused. Whether
 /// such a node sends at all isn't asked.
+#[inline(always)]
 #[tactic(auto, unfolding(crate::specs::Request::request_of))]
 pub fn read_request(room: Vec<u8>, setting: &Setting, line: &[u8]) -> Result<Request, WordFault>
     ensures { Gives (λ r. r) result (request_of setting.now line.now) }

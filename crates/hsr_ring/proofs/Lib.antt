@@ -4,6 +4,7 @@ pub mod Started
 pub mod Ends
 pub mod Hands
 pub mod Next
+pub mod Nodes
 pub mod Looked
 pub mod Stopped
 pub mod Ending

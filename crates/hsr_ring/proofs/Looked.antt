@@ -24,10 +24,13 @@ use Rattle.hsr_node.specs.Flow.{pass_of}
 use Rattle.hsr_world_laws.specs.World.{World, and_added, cleared, entered, has_link, has_node, has_port, is_empty, judged_at, new_span, new_world, no_lane, or_same, owner_at, planned, put_at, put_from, record_at, span_at, span_in, take_to, taken_by, tried, waits_in, with_span}
 use Rattle.hsr_topology.specs.Workers.{port_worker}
 use Rattle.hsr_bitset.specs.Numbers.{has}
-use Rattle.hsr_ring.specs.Pending.{AreLooked, AreOfSenders, ArePending, IsKept, hand_of, is_at, is_by, link_at, touches_box, touches_hand, touches_link}
+use Rattle.hsr_ring.specs.Pending.{AreLooked, AreOfSenders, ArePending, IsKept, hand_of, is_at, is_by, link_at, step_of, touches_box, touches_hand, touches_link}
 use Rattle.hsr_world_links.specs.Ports.{AreTold, dir_at, end_at, held_at, is_held, is_ready, is_waiting, port_in, ports_in, port_fault}
 use Rattle.hsr_world_links.specs.Views.{spot_view}
+use Rattle.hsr_ring.specs.declared.pending.Move.{Move}
+use Rattle.hsr_ring.specs.declared.pending.Move.TheVariants as move
 use Rattle.hsr_ring.specs.declared.pending.Pending.{Pending}
+use Rattle.hsr_ring.proofs.Next.{few_send}
 use Rattle.hsr_world_links.specs.declared.port.Port.{Port}
 use Rattle.hsr_world_steps.specs.declared.step.Step.{Step}
 use Rattle.hsr_world_steps.specs.declared.step.Step.TheVariants.{Clock, Send, Supervise, Age, Put, Take, Judge, Cut, Mend, Inject}
@@ -341,8 +344,11 @@ same_hand v w e (Mend l) = refl
 same_hand v w e (Inject l dir octets) = refl
 
 -- what has a copy to put sends somewhere
-pub of_senders : (list : List Port) (spans : List Span) (left : Pending) → ArePending list spans left → AreOfSenders list left.waiting
-of_senders list spans left p k below none = p.waiting k below ∙ ap (λ o. waits_in spans (option_map spot_view o)) none
+pub of_senders : (places : List Place) (list : List Port) (spans : List Span) (left : Pending) → AreTold places spans list → ArePending list spans left → AreOfSenders list left.waiting
+of_senders places list spans left told p = record {
+  senders = λ k below none. p.waiting k below ∙ ap (λ o. waits_in spans (option_map spot_view o)) none;
+  few = λ k high. few_send places spans list k told high;
+}
 
 looked_at : (capacity : ℕ) (w after : World) (list : List Port) (step : Step) (old new : Pending) → tried capacity w step ≡ Ok after → AreTold w.places w.spans list → ArePending list w.spans old →
     AreLooked list after.spans step old new → ArePending list after.spans new
@@ -376,6 +382,12 @@ looked_at capacity w after list step old new done told p look = record {
 
     alikes : (k : ℕ) → Alike k (touches_hand w.spans step k) (touches_box step k) (touches_link list step k) w after
     alikes k = subst (λ (v : World). Untouched w list step k v) is_after (untouched capacity w list k told step)
+
+-- a move tells nothing that doesn't fit
+pub fits_move : (moved : Move) → FitsStep (step_of moved)
+fits_move (move.Judge end) = record {}
+fits_move (move.Put end) = record {}
+fits_move (move.Take l dir) = record {}
 
 -- a step that was done
 pub kept_done : (capacity : ℕ) (places : List Place) (links : List (List End)) (list : List Port) (touching : List (List ℕ)) (w after : World) (step : Step) (old new : Pending) → tried capacity w step ≡ Ok after →

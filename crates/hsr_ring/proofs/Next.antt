@@ -22,6 +22,7 @@ use Rattle.hsr_world_links.specs.Ports.{AreTold, dir_at, end_at, is_held, is_rea
 use Rattle.hsr_world_links.specs.Views.{spot_view}
 use Rattle.hsr_ring.specs.declared.pending.Pending.{Pending}
 use Rattle.hsr_world_links.specs.declared.port.Port.{Port}
+use Rattle.hsr_world_links.specs.declared.spot.Spot as code-spot
 use Rattle.hsr_world_steps.specs.declared.step.Step.{Step}
 use Rattle.hsr_world_steps.specs.declared.step.Step.TheVariants.{Judge, Put, Take}
 use Rattle.hsr_world_steps.specs.declared.step.WorldFault.{WorldFault}
@@ -153,6 +154,18 @@ only_ports places spans list k of told without h = ⊎_elim within beyond (nat_c
 
     beyond : 8 * length places ≤ k → IsThere places (k / 8) (k % 8)
     beyond past = absurd (false≢true (sym without ∙ ap of (sym (port_beyond places spans list k told past)) ∙ h))
+
+-- the fifth number of a node and those behind it send nowhere
+pub few_send : (places : List Place) (spans : List Span) (list : List Port) (k : ℕ) → AreTold places spans list → 4 ≤ k % 8 → (port_in list k).out ≡ None
+few_send places spans list k told high = by_out (port_in list k).out refl
+  where
+    by_out : (out : Option code-spot.Spot) → (port_in list k).out ≡ out → out ≡ None
+    by_out None e = refl
+    by_out (Some spot) e =
+        let at = only_ports places spans list k (λ p. is_some p.out) told refl (ap is_some e) in
+        let there = at.port in
+        let four = few_ports (slice_index_or places (k / 8) QuadBox) in
+        absurd (omega (arith, there, four, high))
 
 number_in : (list : List Port) (n port : ℕ) → n < 64 → port < 8 → port_of list (end_of n port) ≡ port_in list (port_number (end_of n port))
 number_in list n port node low =

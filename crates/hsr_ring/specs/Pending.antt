@@ -1,6 +1,6 @@
 -- What is left to do in a world: the numbers of the ports that hold a copy, of those that have one to put, and of the directions in
 -- which one waits.
-use Rattle.std.specs.Prelude.{ℕ, ◌/◌, ◌==◌, nat_lt, ◌≡◌, ◌<◌, ◌≤◌, Bool, true, false, if◌then◌else◌, List, length, Option, Some, None, option_map}
+use Rattle.std.specs.Prelude.{ℕ, ◌/◌, ◌%◌, ◌==◌, nat_lt, ◌≡◌, ◌<◌, ◌≤◌, Bool, true, false, if◌then◌else◌, List, length, Option, Some, None, option_map}
 use Rattle.hsr_topology.specs.Links.{is_same_end}
 use Rattle.hsr_topology.specs.declared.end.End.{End}
 use Rattle.hsr_link.specs.declared.row.Dir.{Dir}
@@ -13,6 +13,8 @@ use Rattle.hsr_bitset.specs.Numbers.{IsLowest, has}
 use Rattle.hsr_world_links.specs.Views.{spot_view}
 use Rattle.hsr_world_links.specs.Ports.{dir_at, end_at, is_held, is_ready, is_waiting, AreTold, port_in, port_of}
 use Rattle.hsr_world_links.specs.Touching.{AreTouching}
+use Rattle.hsr_ring.specs.declared.pending.Move.{Move}
+use Rattle.hsr_ring.specs.declared.pending.Move.TheVariants as move
 use Rattle.hsr_ring.specs.declared.pending.Pending.{Pending}
 use Rattle.hsr_world_links.specs.declared.port.Port.{Port}
 use Rattle.hsr_world_steps.specs.declared.step.Step.{Step}
@@ -22,9 +24,10 @@ use Rattle.hsr_world_steps.specs.declared.step.Step.TheVariants.{Send, Supervise
 abbrev pub Has : List ℕ → (ℕ → Bool) → Type 0
 Has numbers test = (k : ℕ) → k < 512 → has numbers k ≡ test k
 
--- all ports that have a copy to put send somewhere
-abbrev pub AreOfSenders : List Port → List ℕ → Type 0
-AreOfSenders ports waiting = (k : ℕ) → k < 512 → (port_in ports k).out ≡ None → has waiting k ≡ false
+-- all ports that have a copy to put send somewhere, and of the eight numbers of a node only the first four may
+pub record AreOfSenders (ports : List Port) (waiting : List ℕ) : Type 0 where
+  pub senders : (k : ℕ) → k < 512 → (port_in ports k).out ≡ None → has waiting k ≡ false
+  pub few : (k : ℕ) → 4 ≤ k % 8 → (port_in ports k).out ≡ None
 
 -- the sets are those of these ports and spans
 pub record ArePending (ports : List Port) (spans : List Span) (pending : Pending) : Type 0 where
@@ -37,6 +40,12 @@ abbrev pub looked : (ℕ → Bool) → (ℕ → Bool) → List ℕ → ℕ → B
 looked touched test old k = if touched k then test k else has old k
 
 -- ---- what a step may change
+
+-- the step that a move is
+abbrev pub step_of : Move → Step
+step_of (move.Judge end) = Judge end.node end.port
+step_of (move.Put end) = Put end.node end.port
+step_of (move.Take l dir) = Take l dir
 
 -- the end at which a direction of a link is received
 abbrev pub received_at : List Span → ℕ → Dir → Option End

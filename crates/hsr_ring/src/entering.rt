@@ -48,6 +48,8 @@ fn entry_at<const C: usize>(kept: &Kept<C>, place: usize) -> &Entry
 
 /// Lets an event happen at a node, which these links touch, and whose copies join the outboxes of its ports. A refusal hands the
 /// event back.
+// Inline, since a call would pass the event through memory, and once more for its way back.
+#[inline(always)]
 pub(crate) fn enter<const C: usize>(
     alloc: Global,
     nodes: &mut [Kept<C>],

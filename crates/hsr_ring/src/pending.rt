@@ -8,7 +8,7 @@ ghost use Rattle.hsr_topology.specs.Links.{is_same_end};
 ghost use Rattle.hsr_world_laws.specs.Spans.{lane_of};
 ghost use Rattle.hsr_world_laws.specs.World.{is_empty, waits_in};
 ghost use Rattle.hsr_bitset.specs.Numbers.{has};
-ghost use Rattle.hsr_ring.specs.Pending.{AreOfSenders, Has, is_at, is_by, link_at, looked, received_at};
+ghost use Rattle.hsr_ring.specs.Pending.{AreOfSenders, Has, is_at, is_by, link_at, looked, received_at, step_of};
 ghost use Rattle.hsr_world_links.specs.Ports.{dir_at, end_at, held_at, is_held, is_ready, is_waiting, port_in};
 ghost use Rattle.hsr_world_links.specs.Views.{span_view, spot_view};
 
@@ -25,6 +25,15 @@ pub(crate) struct Pending {
     held: Numbers,
     waiting: Numbers,
     ready: Numbers,
+}
+
+/// A step that moves a copy, of which a drain does nothing else. It is a type of its own, since a `Step` may have a payload, and is
+/// five times as long.
+#[derive(Clone, Copy)]
+pub(crate) enum Move {
+    Judge(End),
+    Put(End),
+    Take(usize, Dir),
 }
 
 /// Whether a copy is in the hand of a direction.
@@ -86,6 +95,16 @@ fn is_ready(spans: &[Span], number: usize) -> bool
     }
 }
 
+/// The end of a number.
+fn end_at(number: usize) -> End
+    ensures { result ≡ end_at number }
+{
+    End {
+        node: number / 8,
+        port: (number % 8) as u8,
+    }
+}
+
 /// The direction of a number.
 fn dir_at(number: usize) -> Dir
     ensures { result ≡ dir_at number }
@@ -143,7 +162,8 @@ fn look_at_node(waiting: &mut Numbers, ports: &[Port], spans: &[Span], node: usi
     if node >= 64 {
         return;
     }
-    for number in 8 * node..8 * node + 8 {
+    // No node has over four ports: the other numbers have nothing, and had nothing.
+    for number in 8 * node..8 * node + 4 {
         look_at_number(waiting, ports, spans, number);
     }
 }
@@ -208,6 +228,31 @@ impl Pending {
         }
     }
 
+    /// Looks at what a move may have changed: at the ports and the link that it is about, and at the outboxes of a node that judged.
+    // Inline, as all that a drain calls for each move: a call would take longer than what it does.
+    #[inline(always)]
+    pub(crate) fn look_moved(&mut self, ports: &[Port], spans: &[Span], moved: Move)
+        requires { AreOfSenders ports.now self.old.waiting }
+        ensures { AreLooked ports.now (map span_view spans.now) (step_of moved) self.old self.new }
+    {
+        match moved {
+            Move::Judge(end) => {
+                // The hand is empty after a judgement, and what passed waits in the node's outboxes.
+                look_at_hand(&mut self.held, ports, spans, end);
+                look_at_node(&mut self.waiting, ports, spans, end.node);
+            }
+            Move::Put(end) => {
+                look_at_box(&mut self.waiting, ports, spans, end);
+                look_at_out(&mut self.ready, spans, port_of(ports, end).out);
+            }
+            Move::Take(link, dir) => {
+                let end = received_at(spans, link, dir);
+                look_at_receiver(&mut self.held, ports, spans, end);
+                look_at_link(&mut self.ready, spans, link);
+            }
+        }
+    }
+
     /// Looks at what a step may have changed: of the ports, the links and the outboxes at those that it is about.
     pub(crate) fn look(&mut self, ports: &[Port], spans: &[Span], step: &Step)
         requires { AreOfSenders ports.now self.old.waiting }
@@ -223,22 +268,15 @@ impl Pending {
                     node: *node,
                     port: *port,
                 };
-                look_at_box(&mut self.waiting, ports, spans, end);
-                look_at_out(&mut self.ready, spans, port_of(ports, end).out);
+                self.look_moved(ports, spans, Move::Put(end));
             }
-            Step::Take { link, dir } => {
-                let end = received_at(spans, *link, *dir);
-                look_at_receiver(&mut self.held, ports, spans, end);
-                look_at_link(&mut self.ready, spans, *link);
-            }
+            Step::Take { link, dir } => self.look_moved(ports, spans, Move::Take(*link, *dir)),
             Step::Judge { node, port } => {
                 let end = End {
                     node: *node,
                     port: *port,
                 };
-                // The hand is empty after a judgement, and what passed waits in the node's outboxes.
-                look_at_hand(&mut self.held, ports, spans, end);
-                look_at_node(&mut self.waiting, ports, spans, *node);
+                self.look_moved(ports, spans, Move::Judge(end));
             }
             Step::Cut { link } | Step::Inject { link, .. } => {
                 // A cut takes what waits in both directions; an injected copy may be lost at once.
@@ -251,26 +289,18 @@ impl Pending {
 
     /// What a drain does next: it judges at the lowest port that holds a copy, else puts from the lowest that has one to put,
     /// else takes from the lowest link on which one waits, Forth before Back.
-    pub(crate) fn next(&self) -> Option<Step>
-        ensures { IsNext self.now result }
+    #[inline(always)]
+    pub(crate) fn next(&self) -> Option<Move>
+        ensures { IsNext self.now (option_map step_of result) }
     {
         // Hands first, then outboxes, then links, each by the lowest number (RULES, Worlds): so a drain has one order.
         if let Some(number) = self.held.lowest() {
-            return Some(Step::Judge {
-                node: number / 8,
-                port: (number % 8) as u8,
-            });
+            return Some(Move::Judge(end_at(number)));
         }
         if let Some(number) = self.waiting.lowest() {
-            return Some(Step::Put {
-                node: number / 8,
-                port: (number % 8) as u8,
-            });
+            return Some(Move::Put(end_at(number)));
         }
         let number = self.ready.lowest()?;
-        Some(Step::Take {
-            link: number / 2,
-            dir: dir_at(number),
-        })
+        Some(Move::Take(number / 2, dir_at(number)))
     }
 }

@@ -3,6 +3,7 @@
 //! A fault of a call below is handed on by `match` and not by `?`, which gets no proof at these returns.
 ghost use Rattle.std.specs.Prelude.{◌≡◌, ◌⊎◌, ◌<◌, ◌≤◌, ◌^◌, Ok, Err, OnOk, IfErr, IfNone, IfOk, map, length, option_map, reverse};
 ghost use Rattle.hsr_duptable.specs.Table.{IsTableSize};
+ghost use Rattle.hsr_ring.specs.Pending.{step_of};
 ghost use Rattle.hsr_ring.specs.Views.{in_world};
 ghost use Rattle.hsr_world_links.specs.Ports.{port_fault, AreTold};
 ghost use Rattle.hsr_world_links.specs.Views.{put_at_spot, spot_view};
@@ -12,7 +13,7 @@ ghost use Rattle.hsr_node.specs.Kept.{Record};
 
 use crate::closing::{Open, Rest, closed_of};
 use crate::entering::enter;
-use crate::pending::Pending;
+use crate::pending::{Move, Pending};
 use crate::starting::new_nodes;
 use hsr_finished_run::{CheckFault, Closed, Planned};
 use hsr_frame::{About, Counters, Mac};
@@ -139,6 +140,7 @@ impl<const C: usize> Running<C> {
     }
 
     /// The oldest copy that waits in a direction comes into the hand. `NoSuchLink`, then `Busy`, then `Nothing`.
+    #[inline(always)]
     #[tactic(auto, unfolding(hsr_world_laws::specs::World::tried))]
     fn take(&mut self, link: usize, dir: Dir) -> Result<(), WorldFault>
         ensures ok { OnOk result (tried C self.old (Take link dir) ≡ Ok self.new) }
@@ -179,6 +181,7 @@ impl<const C: usize> Running<C> {
     }
 
     /// The oldest copy in the outbox of a port goes onto its link. `NoSuchNode`, `NoSuchPort`, then `Nothing`.
+    #[inline(always)]
     fn put(&mut self, ports: &[Port], node: usize, port: u8) -> Result<(), WorldFault>
         requires { AreTold self.old.places self.old.spans ports.now }
         ensures ok { OnOk result (tried C self.old (Put node port) ≡ Ok self.new) }
@@ -302,6 +305,7 @@ impl<const C: usize> Running<C> {
     }
 
     /// A node judges the copy in the hand of a port. `NoSuchNode`, `NoSuchPort`, then `Nothing`.
+    #[inline(always)]
     fn judge(
         &mut self,
         ports: &[Port],
@@ -409,6 +413,30 @@ impl<const C: usize> Running<C> {
         )
     }
 
+    /// Makes a move, exactly as `tried` says of the step that it is, in a world with these ports, whose nodes these links touch; a
+    /// refusal changes nothing.
+    // Inline, as the three that it calls: each of a drain's moves comes by here.
+    #[inline(always)]
+    pub(crate) fn go(
+        &mut self,
+        ports: &[Port],
+        touching: &[Vec<usize>],
+        moved: Move,
+    ) -> Result<(), WorldFault>
+        requires told { AreTold self.old.places self.old.spans ports.now }
+        requires touching { AreTouching self.old.places self.old.spans
+            (map (λ links. links.items) touching.now) }
+        ensures ok { OnOk result (tried C self.old (step_of moved) ≡ Ok self.new) }
+        ensures err { IfErr result (λ f. (self.new ≡ self.old)
+            × ((f ≡ NoMemory) ⊎ (tried C self.old (step_of moved) ≡ Err f))) }
+    {
+        match moved {
+            Move::Judge(end) => self.judge(ports, touching, end.node, end.port),
+            Move::Put(end) => self.put(ports, end.node, end.port),
+            Move::Take(link, dir) => self.take(link, dir),
+        }
+    }
+
     /// Does a step, exactly as `tried` says, in a world with these ports, whose nodes these links touch; a refusal changes nothing.
     pub(crate) fn step(
         &mut self,
@@ -507,6 +535,15 @@ impl<const C: usize> Running<C> {
             ≡ touching_in (length self.now.places) self.now.spans) }
     {
         new_touching(self.alloc, self.nodes.len(), &self.spans)
+    }
+
+    /// Looks at what a move may have changed of what is left to do.
+    #[inline(always)]
+    pub(crate) fn look_moved(&self, ports: &[Port], moved: Move, pending: &mut Pending)
+        requires { AreOfSenders ports.now pending.old.waiting }
+        ensures { AreLooked ports.now self.now.spans (step_of moved) pending.old pending.new }
+    {
+        pending.look_moved(ports, &self.spans, moved);
     }
 
     /// Looks at what a step may have changed of what is left to do.

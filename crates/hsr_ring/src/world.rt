@@ -2,12 +2,12 @@
 //!
 //! A world is two layers. `Running` steps exactly as the definition says. `World` keeps in its type that it was reached
 //! from the first world of its topology by steps, so what holds of every such world holds of it.
-ghost use Rattle.std.specs.Prelude.{◌≡◌, ◌≤◌, ◌<◌, ◌⊎◌, ◌^◌, Ok, Err, None, OnOk, IfErr, IfOk, length, reverse};
+ghost use Rattle.std.specs.Prelude.{◌≡◌, ◌≤◌, ◌<◌, ◌⊎◌, ◌^◌, Ok, Err, None, OnOk, IfErr, IfOk, length, option_map, reverse};
 ghost use Rattle.hsr_duptable.specs.Table.{IsTableSize};
 ghost use Rattle.hsr_world_steps.specs.declared.step.WorldFault.TheVariants.{NoMemory as NoRoom};
 
 use crate::fit::{places_fit, step_fits};
-use crate::pending::Pending;
+use crate::pending::{Move, Pending};
 use crate::running::Running;
 use hsr_finished_run::{CheckFault, Closed};
 use hsr_frame::{Counters, NoMemory};
@@ -48,6 +48,7 @@ impl<const C: usize> World<C> {
     ghost use Rattle.hsr_run_laws.specs.Once.{IsCalm};
     ghost use Rattle.hsr_run_laws.specs.Premises.{NumberedFirst};
     ghost use Rattle.hsr_world_laws.specs.Lawful.{IsEnded, IsLawful, finished_of};
+    ghost use Rattle.hsr_ring.specs.Pending.{step_of};
     ghost use Rattle.hsr_ring.specs.Stopping.{IsDrainFault, Runs, Stops};
     ghost use Rattle.hsr_world_laws.specs.World.{Drains, span_at, new_world, next_step, owner_at, record_at, tried};
     ghost use Rattle.hsr_frame.specs.Counters.{AreWithin};
@@ -92,6 +93,23 @@ impl<const C: usize> World<C> {
         }
     }
 
+    /// Makes a move, or refuses it as the step that it is; a refusal changes nothing.
+    #[inline(always)]
+    fn go(&mut self, moved: Move) -> Result<(), WorldFault>
+        ensures ok { OnOk result (tried C self.old (step_of moved) ≡ Ok self.new) }
+        ensures err { IfErr result (λ f. (self.new ≡ self.old)
+            × ((f ≡ NoRoom) ⊎ (tried C self.old (step_of moved) ≡ Err f))) }
+    {
+        match self.running.go(&self.ports, &self.touching, moved) {
+            Ok(()) => {
+                self.running
+                    .look_moved(&self.ports, moved, &mut self.pending);
+                Ok(())
+            }
+            Err(fault) => Err(fault),
+        }
+    }
+
     /// Does steps, up to the first that is refused: its index, and why. The steps before it stand.
     pub fn run(&mut self, steps: &[Step]) -> Result<(), (usize, WorldFault)>
         ensures ok { OnOk result (Runs C steps.now self.old self.new) }
@@ -107,8 +125,9 @@ impl<const C: usize> World<C> {
     }
 
     /// What a drain does next.
-    fn next(&self) -> Option<Step>
-        ensures { result ≡ next_step self.now }
+    #[inline(always)]
+    fn next(&self) -> Option<Move>
+        ensures { option_map step_of result ≡ next_step self.now }
     {
         self.pending.next()
     }
@@ -122,10 +141,10 @@ impl<const C: usize> World<C> {
         ensures err { IfErr result (λ f. IsDrainFault C self.old self.new limit f) }
     {
         for done in 0..limit {
-            let Some(step) = self.next() else {
+            let Some(moved) = self.next() else {
                 return Ok(done);
             };
-            match self.step(&step) {
+            match self.go(moved) {
                 Ok(()) => {}
                 Err(fault) => return Err(DrainFault::World(fault)),
             }

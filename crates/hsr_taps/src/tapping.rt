@@ -9,7 +9,7 @@ use crate::choice::{Choice, TapsAsked};
 use crate::direction::{DIRECTIONS, Taps, direction_of, interface_of};
 use crate::points::{Point, points_of};
 use crate::tally::{Tally, is_at, looked_at, tallies_of};
-use hsr_capture_reader::{Interface, Packet};
+use hsr_capture_reader::{Interface, Packet, give_back};
 use hsr_frame::NoMemory;
 use hsr_frame_copies::{NoCopy, copy_of, size_of};
 use hsr_frame_groups::Caught;
@@ -103,18 +103,6 @@ fn put_packet<'a>(
         })?,
     }
     Ok(())
-}
-
-/// How many packets go before their room is given back.
-const AT_ONCE: usize = 65_536;
-
-/// Gives back the room of packets that went, now and then: each time costs a call of the system.
-fn give_back(left: &mut Vec<Packet<'_>>)
-    ensures { left.new.items ≡ left.old.items }
-{
-    if left.len() % AT_ONCE == 0 {
-        left.shrink_to_fit();
-    }
 }
 
 /// The copies and the strays among packets, the last first, so that the packets go as the copies come: a large capture has room for one of

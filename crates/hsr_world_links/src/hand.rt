@@ -26,6 +26,8 @@ fn change(span: &mut Span, dir: Dir, hand: Option<Carried>) -> Option<Carried>
 }
 
 /// Another hand where a port receives; the answer is what was in it. Where it receives nowhere nothing changes.
+// Inline, since a call would pass both copies through memory.
+#[inline(always)]
 pub fn change_hand(spans: &mut [Span], spot: Option<Spot>, hand: Option<Carried>) -> Option<Carried>
     ensures was { result ≡ hand_in (map span_view spans.old) (option_map spot_view spot) }
     ensures now { map span_view spans.new ≡ with_hand hand (map span_view spans.old)

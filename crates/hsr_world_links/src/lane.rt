@@ -60,18 +60,16 @@ fn leaving(alloc: Global, room: &mut Vec<u8>, event: &Event, copy: &Spelled<'_>)
     }
 }
 
-/// The copy that leaves its node by a lane joins its outbox; `here` names the entry.
+/// The copy that leaves its node by a lane, if one does, joins its outbox; `here` names the entry.
+// A call of its own, so that the lanes by which nothing leaves don't make room for a copy's pieces.
+#[inline(never)]
 #[tactic(auto, unfolding(hsr_node::specs::Copies::copy_octets))]
-fn add_copy(alloc: Global, lane: &mut Lane, place: &Place, here: Probe, entry: &Entry)
+fn form_copy(alloc: Global, lane: &mut Lane, place: &Place, here: Probe, entry: &Entry)
     requires node { lane.old.from.node ≡ here.node }
     requires ready { IsReady here.node lane.old }
     ensures { lane_view lane.new ≡ given_lane place.now (receipt_of here entry.now)
         (lane_view lane.old) }
 {
-    // Asked first: of an arrival that goes on, nothing leaves by the port of the other lane, and nothing is formed for it.
-    if !is_left_by(&entry.outcome, lane.from.port) {
-        return;
-    }
     let Some(copy) = spelled_out(place, &entry.event, &entry.outcome, lane.from.port) else {
         return;
     };
@@ -83,6 +81,20 @@ fn add_copy(alloc: Global, lane: &mut Lane, place: &Place, here: Probe, entry: &
     let Ok(()) = lane.outbox.push_back(carried) else {
         unreachable!()
     };
+}
+
+/// The copy that leaves its node by a lane joins its outbox; `here` names the entry.
+#[tactic(auto, unfolding(hsr_node::specs::Copies::copy_octets))]
+fn add_copy(alloc: Global, lane: &mut Lane, place: &Place, here: Probe, entry: &Entry)
+    requires node { lane.old.from.node ≡ here.node }
+    requires ready { IsReady here.node lane.old }
+    ensures { lane_view lane.new ≡ given_lane place.now (receipt_of here entry.now)
+        (lane_view lane.old) }
+{
+    // Asked first: of an arrival that goes on, nothing leaves by the port of the other lane, and nothing is formed for it.
+    if is_left_by(&entry.outcome, lane.from.port) {
+        form_copy(alloc, lane, place, here, entry);
+    }
 }
 
 /// The copy that leaves by a lane joins its outbox, if the lane is one of its node; `here` names the entry.

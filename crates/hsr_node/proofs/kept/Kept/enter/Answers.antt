@@ -15,8 +15,8 @@ invariant_of-self-in-Err g c =
     let kept = c.self.inside in
     let is_refused : (node_step g.row.C kept.node c.args.at c.args.event).0 ≡ Err c.in-Err.fault = sym {A = Result Outcome StepFault} (ap (λ s. s.0) c.apply.ensures) ∙ c.in-Err.is in
     let same : c.apply.new.self ≡ kept.node = ap (λ s. s.1) c.apply.ensures ∙ refused-leaves g.row.C kept.node c.args.at c.args.event c.in-Err.fault is_refused in
-    subst (λ (n : Node g.row.C). Replays g.row.C kept.place (reverse c.reserve.new.self.items) n) (sym {A = Node g.row.C} same)
-    (subst (λ (es : List Entry). Replays g.row.C kept.place (reverse es) kept.node) (sym {A = List Entry} c.reserve.ensures.items) c.self.invariant)
+    subst (λ (n : Node g.row.C). Replays g.row.C kept.place (reverse c.make_room.new.list.items) n) (sym {A = Node g.row.C} same)
+    (subst (λ (es : List Entry). Replays g.row.C kept.place (reverse es) kept.node) (sym {A = List Entry} c.make_room.ensures.items) c.self.invariant)
 
 -- a node refuses what its record refuses
 pub returns-in-Err-clause-answered : goal.returns-in-Err-clause-answered

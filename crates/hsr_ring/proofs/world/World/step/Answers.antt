@@ -23,5 +23,5 @@ look-requires g c =
     let own = c.self.inside in (
       omega arith,
       subst (λ (ports : List Port). AreOfSenders ports own.pending.waiting) (sym c.deref-in-Ok.ensures.value)
-          (of_senders own.ports.items own.running.spans own.pending c.self.invariant.pending),
+          (of_senders own.running.places own.ports.items own.running.spans own.pending c.self.invariant.told c.self.invariant.pending),
     )
