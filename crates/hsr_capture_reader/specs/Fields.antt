@@ -1,8 +1,9 @@
 -- Interfaces, packets, and what was lost, without where they lie in memory.
-use Rattle.std.specs.Prelude.{ℕ, ◌+◌, ◌-◌, ◌^◌, min, max, List, Option, Some, None, unwrap_or}
+use Rattle.std.specs.Prelude.{ℕ, zero, suc, ◌+◌, ◌-◌, ◌^◌, min, max, List, Option, Some, None, unwrap_or}
 use Rattle.hsr_capture_reader.specs.declared.clock.Clock.{Clock}
 use Rattle.hsr_capture_reader.specs.declared.fields.Losses.{Losses}
 use Rattle.hsr_capture_reader.specs.declared.fields.Way.{Way}
+use Rattle.hsr_capture_reader.specs.declared.fields.Way.TheVariants as the_way
 
 -- an interface that packets were captured at
 pub record InterfaceFields : Type 0 where
@@ -20,6 +21,12 @@ pub record PacketFields : Type 0 where
   pub number : ℕ
   pub interface : ℕ
   pub way : Option Way
+
+-- the direction with a number
+abbrev pub way_by : ℕ → Option Way
+way_by zero = None
+way_by (suc zero) = Some the_way.In
+way_by (suc (suc n)) = Some the_way.Out
 
 -- ---- what was lost
 

@@ -1,4 +1,4 @@
--- The names of interfaces, which are kept behind the packets of a file.
+-- The names of interfaces, which are kept apart from the packets of a file.
 use Rattle.std.specs.Prelude.{ℕ, List, [], ◌∷◌, take, drop}
 use Rattle.hsr_capture_reader.specs.declared.names.Named.{Named}
 use Rattle.hsr_capture_reader.specs.Fields.{InterfaceFields}

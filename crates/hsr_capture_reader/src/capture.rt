@@ -8,8 +8,7 @@ ghost use Rattle.hsr_capture_reader.specs.Told.{Tells, capture_by};
 use crate::blocks::is_section;
 use crate::fault::{CaptureFault, ReadFault};
 use crate::fields::{Interface, Losses, Packet};
-use crate::names::{interfaces_by, names_of};
-use crate::options::{behind, front};
+use crate::names::{Names, interfaces_by, names_of};
 use crate::packing::pack;
 use crate::pcap::{format_of, pcap_of};
 use crate::reading::{Reading, refused};
@@ -20,11 +19,12 @@ use hsr_frame::NoMemory;
 use std::alloc::Global;
 use std::marker::Model;
 
-/// What a file tells of the traffic that was captured.
+/// What a file tells of the traffic that was captured. Names stand apart from packets, so that who has no more need of packets may let
+/// their octets go.
 #[derive(Drop)]
-pub struct Capture<'a> {
+pub struct Capture<'n, 'a> {
     /// The interfaces by number.
-    pub interfaces: Vec<Interface<'a>>,
+    pub interfaces: Vec<Interface<'n>>,
     /// What was lost at each interface.
     pub losses: Vec<Losses>,
     /// The packets, as the file has them.
@@ -35,7 +35,7 @@ pub struct Capture<'a> {
     pub is_short: bool,
 }
 
-impl<'a> Model for Capture<'a> {
+impl<'n, 'a> Model for Capture<'n, 'a> {
     ghost use Rattle.hsr_capture_reader.specs.Capture.{CaptureFields};
 
     ghost Value = { CaptureFields };
@@ -109,45 +109,52 @@ fn told_of(alloc: Global, fcs: u8, octets: &[u8]) -> Result<Told, ReadFault>
     Ok(told_in(alloc, reading)?)
 }
 
-/// The capture that was told, in the octets of its file: what isn't the octets of a packet goes, and names come behind them.
-fn capture_by<'a>(
+/// The capture that was told, in the octets of its file: what isn't the octets of a packet goes. The names stand elsewhere.
+fn capture_by<'n, 'a>(
     alloc: Global,
     octets: &'a mut Vec<u8>,
+    names: &'n mut Vec<u8>,
     told: Told,
-) -> Result<Capture<'a>, NoMemory>
+) -> Result<Capture<'n, 'a>, NoMemory>
     requires many { length told.rooms.items ≤ 1048576 }
     requires apart { AreApart (length octets.old.items) 0 told.rooms.items }
     ensures { IfOk result (λ capture. capture ≡ capture_by octets.old.items told) }
 {
     let Told {
-        names,
+        names: Names {
+            names: text,
+            interfaces,
+        },
         losses,
         mut rooms,
         end,
         is_short,
     } = told;
     pack(octets, &mut rooms);
-    let len = octets.len();
-    octets.extend_from_slice(names.names.as_slice())?;
     octets.shrink_to_fit();
-    let octets = octets.as_slice();
+    *names = text;
     Ok(Capture {
-        interfaces: interfaces_by(alloc, names.interfaces.as_slice(), behind(octets, len))?,
+        interfaces: interfaces_by(alloc, interfaces.as_slice(), names.as_slice())?,
         losses,
-        packets: packets_by(alloc, front(octets, len), rooms)?,
+        packets: packets_by(alloc, octets.as_slice(), rooms)?,
         end,
         is_short,
     })
 }
 
-impl<'a> Capture<'a> {
+impl<'n, 'a> Capture<'n, 'a> {
     /// What a file tells, in either format; where it doesn't say how many octets of each packet are a frame check sequence, so
     /// many are. `Refused` where something is wrong with it, with the first such offset; `NoMemory` where room is refused. The
-    /// packets and the names stay in the memory of the file, and what else it has goes.
-    pub fn read(alloc: Global, fcs: u8, octets: &'a mut Vec<u8>) -> Result<Capture<'a>, ReadFault>
+    /// packets stay in the memory of the file, and what else it has goes. The names of interfaces are put in `names`; what it held goes.
+    pub fn read(
+        alloc: Global,
+        fcs: u8,
+        octets: &'a mut Vec<u8>,
+        names: &'n mut Vec<u8>,
+    ) -> Result<Capture<'n, 'a>, ReadFault>
         ensures { Gives result (capture_of fcs octets.old.items) }
     {
         let told = told_of(alloc, fcs, octets.as_slice())?;
-        Ok(capture_by(alloc, octets, told)?)
+        Ok(capture_by(alloc, octets, names, told)?)
     }
 }

@@ -1,6 +1,6 @@
 //! Interfaces, what was lost at them, and packets.
-ghost use Rattle.std.specs.Prelude.{◌≡◌, ◌<◌, ◌↔◌, IsTrue, length};
-ghost use Rattle.hsr_capture_reader.specs.Fields.{add_dropped, dropped, set_dropped};
+ghost use Rattle.std.specs.Prelude.{◌≡◌, ◌+◌, ◌/◌, ◌%◌, ◌<◌, ◌↔◌, IsTrue, length};
+ghost use Rattle.hsr_capture_reader.specs.Fields.{add_dropped, dropped, set_dropped, way_by};
 
 use crate::clock::Clock;
 use std::marker::Model;
@@ -83,36 +83,120 @@ pub enum Way {
     Out,
 }
 
-/// A packet that was captured. Its fields stand as they take least memory.
+/// A packet that was captured, as 32 octets: a capture has up to a million of them.
 #[derive(Drop)]
 pub struct Packet<'a> {
     /// Nanoseconds since 1970.
     pub moment: u64,
     /// What was captured of it, without its frame check sequence.
     pub octets: &'a [u8],
-    /// How many octets it had on the wire, without its frame check sequence.
-    pub length: usize,
-    /// The number of its interface in the file, from 0.
-    pub interface: usize,
-    /// Which of the file's packets it is, from 1.
-    pub number: u32,
-    /// Its direction, where its flags say one.
-    pub way: Option<Way>,
+    length: u32,
+    /// Its number less 1 in 20 bits, above them the number of its interface in 8 bits, and above these its direction.
+    named: u32,
 }
 
 impl<'a> Model for Packet<'a> {
-    ghost use Rattle.hsr_capture_reader.specs.Fields.{PacketFields};
+    ghost use Rattle.std.specs.Prelude.{◌+◌, ◌/◌, ◌%◌};
+    ghost use Rattle.hsr_capture_reader.specs.Fields.{PacketFields, way_by};
 
     ghost Value = { PacketFields };
 
-    ghost view = { λ p. record { moment = p.moment; octets = p.octets.now; length = p.length; number = p.number; interface = p.interface; way = p.way } };
+    ghost view = { λ p. record {
+      moment = p.moment;
+      octets = p.octets.now;
+      length = p.length;
+      number = p.named % 1048576 + 1;
+      interface = p.named / 1048576 % 256;
+      way = way_by (p.named / 268435456);
+    } };
+}
+
+/// The number of a direction among four.
+fn way_code(way: Option<Way>) -> u32
+    ensures few { result < 4 }
+    ensures code { way_by result ≡ way }
+{
+    match way {
+        None => 0,
+        Some(Way::In) => 1,
+        Some(Way::Out) => 2,
+    }
+}
+
+/// The direction with a number.
+fn way_by(code: u32) -> Option<Way>
+    ensures { result ≡ way_by code }
+{
+    match code {
+        0 => None,
+        1 => Some(Way::In),
+        _ => Some(Way::Out),
+    }
+}
+
+/// The number of a packet behind so many others less 1, its interface and its direction in one number.
+fn named_by(before: u32, interface: u8, way: Option<Way>) -> u32
+    requires { before < 1048576 }
+    ensures before { result % 1048576 ≡ before }
+    ensures interface { result / 1048576 % 256 ≡ interface }
+    ensures way { way_by (result / 268435456) ≡ way }
+{
+    (way_code(way) * 256 + u32::from(interface)) * 1_048_576 + before
 }
 
 impl<'a> Packet<'a> {
+    /// A packet behind so many others of its file, of which these octets were captured.
+    pub(crate) fn new(
+        moment: u64,
+        octets: &'a [u8],
+        length: u32,
+        before: u32,
+        interface: u8,
+        way: Option<Way>,
+    ) -> Packet<'a>
+        requires { before < 1048576 }
+        ensures { result ≡ record { moment = moment; octets = octets.now; length = length; number = before + 1; interface = interface; way = way } }
+    {
+        Packet {
+            moment,
+            octets,
+            length,
+            named: named_by(before, interface, way),
+        }
+    }
+
+    /// How many octets it had on the wire, without its frame check sequence.
+    pub fn length(&self) -> usize
+        ensures { result ≡ self.now.length }
+    {
+        self.length as usize
+    }
+
+    /// Which of the file's packets it is, from 1.
+    pub fn number(&self) -> u32
+        ensures { result ≡ self.now.number }
+    {
+        self.named % 1_048_576 + 1
+    }
+
+    /// The number of its interface in the file, from 0.
+    pub fn interface(&self) -> usize
+        ensures { result ≡ self.now.interface }
+    {
+        (self.named / 1_048_576 % 256) as usize
+    }
+
+    /// Its direction, where its flags say one.
+    pub fn way(&self) -> Option<Way>
+        ensures { result ≡ self.now.way }
+    {
+        way_by(self.named / 268_435_456)
+    }
+
     /// Whether octets at its end weren't captured.
     pub fn is_cut(&self) -> bool
         ensures { IsTrue result ↔ (length self.now.octets < self.now.length) }
     {
-        self.octets.len() < self.length
+        self.octets.len() < self.length()
     }
 }

@@ -15,7 +15,7 @@
 //! - `pcapng`: what its blocks tell
 //! - `walk`: a whole pcapng file
 //! - `pcap`: the older format
-//! - `names`: the names of interfaces, which are kept behind the packets
+//! - `names`: the names of interfaces, which are kept apart from the packets
 //! - `packing`: the octets of the packets, moved to the front of their file
 //! - `told`: what a file told, without references into it
 //! - `capture`: a whole capture, its call

@@ -1,4 +1,4 @@
-//! The names of interfaces, which are kept behind the packets of a file.
+//! The names of interfaces, which are kept apart from the packets of a file.
 ghost use Rattle.std.specs.Prelude.{◌≡◌, length, IfOk};
 ghost use Rattle.hsr_capture_reader.specs.Names.{interface_by, interfaces_by};
 

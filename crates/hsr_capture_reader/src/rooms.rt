@@ -76,14 +76,14 @@ fn packet_by<'a>(file: &'a [u8], before: usize, room: Room) -> Packet<'a>
     requires { before < 1048576 }
     ensures { result ≡ packet_by file.now before room }
 {
-    Packet {
-        moment: room.moment,
-        octets: front(behind(file, room.at as usize), room.kept as usize),
-        length: room.length as usize,
-        interface: usize::from(room.interface),
-        number: before as u32 + 1,
-        way: room.way,
-    }
+    Packet::new(
+        room.moment,
+        front(behind(file, room.at as usize), room.kept as usize),
+        room.length,
+        before as u32,
+        room.interface,
+        room.way,
+    )
 }
 
 /// How many entries go before their memory is given back.

@@ -160,8 +160,8 @@ fn reported<const C: usize>(
     match reached.world.close() {
         Ok(closed) => {
             let shown = finished(alloc, octets, &closed, showing, folder, notes);
-            // The program ends with what is shown, and all its memory goes back at once: to free each copy of the run first takes as
-            // long as to look what was forgotten.
+            // The program ends with what is shown, and all its memory goes back at once: to free each copy of the run by itself first
+            // would only take time.
             mem::forget(closed);
             shown
         }

@@ -8,6 +8,8 @@ use hsr_tables::{NodeTable, ProxyTable};
 use hsr_tag::{EitherView, SeenView};
 
 /// The source and number of a tagged frame. Of what is none there is nothing to look for in a duplicate table.
+// Inline, so that the frame that was read needn't stand in memory.
+#[inline(always)]
 pub fn key_in(seen: &Result<SeenView<'_>, FrameFault>) -> Option<Key>
     ensures { result ≡ key_in seen.now }
 {
@@ -25,6 +27,8 @@ pub fn key_in(seen: &Result<SeenView<'_>, FrameFault>) -> Option<Key>
 
 /// Hears a tagged supervision frame of another node on a ring port, at a moment in microseconds, and tells whether what
 /// it says could be read. A duplicate is heard too: it tells that its ring port is reached (IEC 62439-3 clause 5.7).
+// Inline, so that the frame that was read needn't stand in memory.
+#[inline(always)]
 pub fn hear(
     nodes: &mut NodeTable,
     own: Mac,

@@ -81,6 +81,8 @@ impl<const C: usize> EgressTables<C> {
 
     /// Judges an arrival that some egresses want. A tagged frame passes those of them that don't remember it, and is noted
     /// there; what is no tagged frame is neither looked for nor noted.
+    // Inline, so that the frame that was read needn't stand in memory.
+    #[inline(always)]
     pub fn judge(
         &mut self,
         wants: Wants,

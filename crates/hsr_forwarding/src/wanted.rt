@@ -64,6 +64,8 @@ fn is_behind(stations: Option<&ProxyTable>, mac: Mac, now: u64) -> bool
 
 /// What is wanted of what came to a ring port of a node with this address and mode (IEC 62439-3 clause 5.3), at a moment in
 /// microseconds. `stations` are those that a RedBox heard on its interlink; a node without an interlink has none.
+// Inline, so that the frame that was read needn't stand in memory.
+#[inline(always)]
 pub fn ring_wants(
     own: Mac,
     mode: Mode,

@@ -116,6 +116,8 @@ fn read_head(octets: &[u8]) -> Result<Head<'_>, FrameFault>
 impl<'a> Head<'a> {
     /// The frame that the octets spell, or the first of the faults: too short, too long, from a group,
     /// with two VLAN tags.
+    // Inline, since a call would pass the frame through memory.
+    #[inline(always)]
     pub fn parse(octets: &'a [u8]) -> Result<Head<'a>, FrameFault>
         ensures exact { result ≡ raw_of octets.now }
         // What is read is spelled so.

@@ -109,7 +109,7 @@ fn filled(packet: &Packet<'_>) -> ArrayVec<u8, MAX_FRAME>
     requires room { packet.now.length ≤ max_frame }
     ensures { result.items ≡ filled packet.now }
 {
-    with_zeros(packet.octets, packet.length)
+    with_zeros(packet.octets, packet.length())
 }
 
 /// What stands up to the payload of a tagged frame.
@@ -177,7 +177,7 @@ fn copy_by<'a>(packet: &Packet<'a>) -> Result<Copy<'a>, NoCopy>
     if packet.octets.len() < needed(packet.octets) {
         return Err(NoCopy::Unread);
     }
-    if packet.length > MAX_FRAME {
+    if packet.length() > MAX_FRAME {
         return Err(NoCopy::Malformed(FrameFault::Long));
     }
     let filled = filled(packet);

@@ -14,7 +14,7 @@ const SOURCE_AT: usize = 6;
 pub fn size_of(packet: &Packet<'_>) -> usize
     ensures { result ≡ size_of packet.now }
 {
-    packet.octets.len().max(packet.length)
+    packet.octets.len().max(packet.length())
 }
 
 /// The address at a place.

@@ -4,9 +4,11 @@ ghost use Rattle.hsr_frame.specs.Layout.{max_frame};
 ghost use Rattle.hsr_frame_copies.specs.Contents.{copy_at, payload_at};
 ghost use Rattle.hsr_frame_groups.specs.Frames.{key_by, key_of};
 
-use hsr_frame::Mac;
+use crate::noted::Noted;
+use hsr_frame::{Mac, copied};
 use hsr_frame_copies::{Copy, copy_at};
 use std::marker::Model;
+use std::snapshot::Snapshot;
 
 /// A copy that was captured: when, in nanoseconds since 1970; as which of the file's packets, from 1; in which direction, by its
 /// number; and what it says. It is held as the packet's octets and read anew from them, so that a copy takes 32 octets of room.
@@ -21,6 +23,7 @@ pub struct Caught<'a> {
 
 impl<'a> Model for Caught<'a> {
     ghost use Rattle.std.specs.Prelude.{◌≤◌, length};
+    ghost use Rattle.hsr_frame.specs.Layout.{max_frame};
     ghost use Rattle.hsr_frame_copies.specs.Contents.{copy_at, payload_at};
     ghost use Rattle.hsr_frame_groups.specs.Frames.{CaughtFields};
 
@@ -28,7 +31,7 @@ impl<'a> Model for Caught<'a> {
 
     ghost view = { λ c. record { at = c.at; packet = c.packet; direction = c.direction; copy = copy_at c.octets.now c.size } };
 
-    ghost invariant = { λ c. payload_at c.octets.now ≤ length c.octets.now };
+    ghost invariant = { λ c. (payload_at c.octets.now ≤ length c.octets.now) × (length c.octets.now ≤ max_frame) };
 }
 
 impl<'a> Caught<'a> {
@@ -36,6 +39,7 @@ impl<'a> Caught<'a> {
     pub fn new(at: u64, packet: u32, direction: usize, octets: &'a [u8], size: usize) -> Caught<'a>
         requires direction { direction < 2 ^ 16 }
         requires head { payload_at octets.now ≤ length octets.now }
+        requires octets { length octets.now ≤ max_frame }
         requires size { size ≤ max_frame }
         ensures { result ≡ record { at = at; packet = packet; direction = direction; copy = copy_at octets.now size } }
     {
@@ -74,6 +78,29 @@ impl<'a> Caught<'a> {
         ensures { result ≡ self.now.copy }
     {
         copy_at(self.octets, usize::from(self.size))
+    }
+
+    /// The same without its payload.
+    pub fn note(&self) -> Noted
+        ensures { result ≡ self.now }
+    {
+        let copy = self.copy();
+        // For clauses alone, so this copy of the octets isn't made.
+        let octets = copied(self.octets);
+        Noted {
+            at: self.at,
+            packet: self.packet,
+            source: copy.src,
+            seq: copy.seq,
+            control: copy.vlan.unwrap_or(0),
+            size: copy.size,
+            length: copy.length as u16,
+            direction: self.direction,
+            path: copy.path,
+            has_vlan: copy.vlan.is_some(),
+            is_to_group: copy.is_to_group(),
+            octets: Snapshot::of(&octets),
+        }
     }
 }
 

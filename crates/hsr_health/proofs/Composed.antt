@@ -1,6 +1,6 @@
 -- The whole, of what its parts tell.
 use Rattle.std.proofs.Common.{◌≡◌, ℕ, zero, suc, ◌<◌, Bool, true, false, cond, List, [], ◌∷◌, length, refl, sym, ap, subst, ◌∙◌, arith, Option, Some, None, Ok, Err, Result}
-use Rattle.std.specs.Prelude.{nat_lt, slice_get, slice_index, IfNone}
+use Rattle.std.specs.Prelude.{nat_lt, slice_get, slice_index}
 use Rattle.std.specs.List.{cons_option}
 use Rattle.std.proofs.lemmas.List.Sorted.{length_permutation}
 use Rattle.hsr_capture_reader.specs.Capture.{CaptureFields}
@@ -51,9 +51,9 @@ way_below [] below direction = omega arith
 way_below (w ∷ ways) below zero = below 0 w refl
 way_below (w ∷ ways) below (suc direction) = way_below ways (λ d v at_d. below (suc d) v at_d) direction
 
-pub caught_of : (choice : ChoiceFields) (capture : CaptureFields) (traffic : Traffic) (is_whole : Bool) → IsBounded capture → IsTraffic choice capture traffic
-    → AreCaught (ring_in traffic is_whole) traffic.tapped.copies.items
-caught_of choice capture traffic is_whole bounds is = record {
+pub caught_of : (choice : ChoiceFields) (capture : CaptureFields) (traffic : Traffic) (copies : List CaughtFields) (is_whole : Bool) → IsBounded capture → IsTraffic choice capture traffic copies
+    → AreCaught (ring_in traffic is_whole) copies
+caught_of choice capture traffic copies is_whole bounds is = record {
   time = is.tapped.time;
   few = let same = length_permutation _ _ is.in_time.same in omega (arith, is.tapped.few, same, bounds.packets);
   numbers = is.tapped.numbers;
@@ -97,8 +97,9 @@ strays_below looked taps (p ∷ packets) i s here = by_first looked taps p (stra
     by_first looked taps p (Some x) some rest others zero s here = let own = stray_of looked taps p x some in let same : x ≡ s = cc in omega (arith, own, ap (λ (y : Stray). y.interface) same)
     by_first looked taps p (Some x) some rest others (suc i) s here = others i s here
 
-pub interfaces_of : (choice : ChoiceFields) (capture : CaptureFields) (traffic : Traffic) → IsBounded capture → IsTraffic choice capture traffic → HaveInterfaces traffic.tapped.strays.items
-interfaces_of choice capture traffic bounds is i s here =
+pub interfaces_of : (choice : ChoiceFields) (capture : CaptureFields) (traffic : Traffic) (copies : List CaughtFields) → IsBounded capture → IsTraffic choice capture traffic copies
+    → HaveInterfaces traffic.tapped.strays.items
+interfaces_of choice capture traffic copies bounds is i s here =
     let below = strays_below is.looked traffic.tapped.taps.items is.packets i s (ap (λ l. slice_get l i) (sym is.tapped.strays) ∙ here) in
     let few = few_looked choice capture.interfaces is.looked is.tapped.looks in
     omega (arith, below, few, bounds.interfaces)
@@ -114,7 +115,3 @@ pub findings_same : (ring ring' : Ring) (copies copies' : List CaughtFields) (ta
 findings_same ring ring' copies copies' taps taps' many many' findings r c t m are =
     subst (λ x. AreFindings ring' copies' taps' x findings) m
     (subst (λ x. AreFindings ring' copies' x many findings) t (subst (λ x. AreFindings ring' x taps many findings) c (subst (λ x. AreFindings x copies taps many findings) r are)))
-
-pub none_on : {X : Type 0} {P Q : Type 0} (o : Option X) → IfNone o P → (P → Q) → IfNone o Q
-none_on None p f = f p
-none_on (Some x) p f = tt

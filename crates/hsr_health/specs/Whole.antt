@@ -18,12 +18,14 @@ use Rattle.hsr_health.specs.Kinds.{AreMalformed, AreUntagged, AreVlans}
 use Rattle.hsr_health.specs.Reasons.{AreOfCopies, AreOfPoints, AreOfSources as AreOfKnown, AreOfStrays, AreOfWhole}
 use Rattle.hsr_health.specs.Sources.{HasManySources}
 use Rattle.hsr_health.specs.Told.{IsGreatestCrowd, IsOfCrowd, is_absent}
+use Rattle.hsr_health.specs.declared.contents.Contents.{Contents}
 use Rattle.hsr_health.specs.declared.counts.Counts.{Counts}
 use Rattle.hsr_health.specs.declared.asked.Asked.{Asked}
 use Rattle.hsr_heard.specs.declared.heard.Heard.{Heard}
 use Rattle.hsr_health.specs.declared.devices.Devices.{Devices}
 use Rattle.hsr_health.specs.declared.findings.Findings.{Findings}
 use Rattle.hsr_health.specs.declared.framed.Framed.{Framed}
+use Rattle.hsr_health.specs.declared.gathered.Gathered.{Gathered}
 use Rattle.hsr_health.specs.declared.health.Health.{Health}
 use Rattle.hsr_health.specs.declared.health.HealthFault.{HealthFault}
 use Rattle.hsr_health.specs.declared.health.HealthFault.TheVariants as fault
@@ -92,13 +94,13 @@ pub record IsOutline (capture : CaptureFields) (packets : List PacketFields) (ou
   pub end : outline.end ≡ end_by capture.end (slice_get packets (length packets - 1))
   pub is_short : outline.is_short ≡ capture.is_short
 
--- what stays of a capture, and what came by its taps
-pub record IsTraffic (choice : ChoiceFields) (capture : CaptureFields) (traffic : Traffic) : Type 0 where
+-- what stays of a capture, and what came by its taps, with the copies among it
+pub record IsTraffic (choice : ChoiceFields) (capture : CaptureFields) (traffic : Traffic) (copies : List CaughtFields) : Type 0 where
   pub packets : List PacketFields
   pub in_time : IsInTime capture.packets packets
   pub outline : IsOutline capture packets traffic.outline
   pub looked : List Bool
-  pub tapped : IsTapped choice capture.interfaces packets looked traffic.tapped
+  pub tapped : IsTapped choice capture.interfaces packets looked traffic.tapped copies
   pub loads : AreLoads (map is_some traffic.tapped.tallies.items) packets traffic.loads.items
 
 -- ---- directions
@@ -174,6 +176,12 @@ pub record AreCaught (ring : Ring) (copies : List CaughtFields) : Type 0 where
   pub directions : (i : ℕ) (c : CaughtFields) → slice_get copies i ≡ Some c → c.direction < 320
   pub places : HasPlaces ring
   pub ways : HasWays ring
+
+-- what copies tell by their payloads: of each the one that began its frame, what is counted of it, but whether it is late, and what supervision says
+pub record AreContents (ring : Ring) (copies : List CaughtFields) (taps : List Taps) (contents : Contents) : Type 0 where
+  pub read : AreRead copies contents.firsts.items
+  pub marks : TellsEach (mark_but_late (is_at (lanes_of taps)) ring) copies contents.marks.items
+  pub heard : AreHeard ring copies contents.hearing.heard.items contents.hearing.unread.items
 
 -- what copies tell of one another as copies of frames
 pub record AreFramed (ring : Ring) (copies : List CaughtFields) (taps : List Taps) (framed : Framed) : Type 0 where
@@ -270,15 +278,15 @@ pub record AreReasons (ring : Ring) (taps : List Taps) (copies : List CaughtFiel
   pub of_strays_told : AreOfStrays strays (of_points ++ option_to_list crowded) reasons
 
 -- what is told of a capture behind what is told of its copies
-pub record IsSettled (ring : Ring) (taps : List Taps) (many : ℕ) (traffic : Traffic) (asked : Asked) (expected : List (List ℕ)) (findings : Findings) (settled : Settled) : Type 0 where
+pub record IsSettled (ring : Ring) (taps : List Taps) (many : ℕ) (traffic : Traffic) (copies : List CaughtFields) (asked : Asked) (expected : List (List ℕ)) (findings : Findings) (settled : Settled) : Type 0 where
   pub absent : settled.absent.items ≡ filter (is_absent findings.sources.macs.items findings.known.abouts.all.items) expected
   pub told : List Reason
   pub facts : Facts
-  pub are_told : AreReasons ring taps traffic.tapped.copies.items many findings traffic.outline.losses.items (map (is_asked asked.choice) (range_with_len 0 (length traffic.outline.interfaces.items)))
+  pub are_told : AreReasons ring taps copies many findings traffic.outline.losses.items (map (is_asked asked.choice) (range_with_len 0 (length traffic.outline.interfaces.items)))
       settled.absent.items traffic.tapped.strays.items asked.table told
-  pub are_facts : AreFacts traffic.tapped.copies.items findings facts
+  pub are_facts : AreFacts copies findings facts
   pub reasons : settled.reasons.items ≡ in_order facts told
-  pub vlans : AreVlans (reverse traffic.tapped.copies.items) settled.vlans.items
+  pub vlans : AreVlans (reverse copies) settled.vlans.items
   pub untagged : AreUntagged traffic.tapped.strays.items settled.untagged.items
   pub malformed : AreMalformed traffic.tapped.strays.items settled.malformed.items
 
@@ -294,10 +302,15 @@ ring_in traffic is_whole = record {
   ways = traffic.tapped.way_of.items;
 }
 
+-- what is told of a capture by the octets of its packets
+pub record IsGathered (capture : CaptureFields) (asked : Asked) (gathered : Gathered) : Type 0 where
+  pub came : IsTraffic asked.choice capture gathered.traffic gathered.copies.items
+  pub contents : AreContents (ring_in gathered.traffic asked.is_whole) gathered.copies.items gathered.traffic.tapped.taps.items gathered.contents
+
 -- what is told of what came by the taps
-pub record IsTold (traffic : Traffic) (asked : Asked) (expected : List (List ℕ)) (told : Told) : Type 0 where
-  pub found : AreFindings (ring_in traffic asked.is_whole) traffic.tapped.copies.items traffic.tapped.taps.items (length traffic.tapped.points.items) told.findings
-  pub settled : IsSettled (ring_in traffic asked.is_whole) traffic.tapped.taps.items (length traffic.tapped.points.items) traffic asked expected told.findings told.settled
+pub record IsTold (traffic : Traffic) (copies : List CaughtFields) (asked : Asked) (expected : List (List ℕ)) (told : Told) : Type 0 where
+  pub found : AreFindings (ring_in traffic asked.is_whole) copies traffic.tapped.taps.items (length traffic.tapped.points.items) told.findings
+  pub settled : IsSettled (ring_in traffic asked.is_whole) traffic.tapped.taps.items (length traffic.tapped.points.items) traffic copies asked expected told.findings told.settled
 
 -- all of it together: frames are the copies that began one
 abbrev pub health_in : Traffic → Findings → Settled → Health
@@ -333,16 +346,18 @@ pub record IsHealth (capture : CaptureFields) (asked : Asked) (expected : List (
   pub findings : Findings
   pub settled : Settled
   pub made : health ≡ health_in traffic findings settled
-  pub came : IsTraffic asked.choice capture traffic
-  pub found : AreFindings (ring_in traffic asked.is_whole) traffic.tapped.copies.items traffic.tapped.taps.items (length traffic.tapped.points.items) findings
-  pub told : IsSettled (ring_in traffic asked.is_whole) traffic.tapped.taps.items (length traffic.tapped.points.items) traffic asked expected findings settled
-  pub frames : health.frames ≡ count_copies begins (reverse traffic.tapped.copies.items)
+  pub copies : List CaughtFields
+  pub came : IsTraffic asked.choice capture traffic copies
+  pub found : AreFindings (ring_in traffic asked.is_whole) copies traffic.tapped.taps.items (length traffic.tapped.points.items) findings
+  pub told : IsSettled (ring_in traffic asked.is_whole) traffic.tapped.taps.items (length traffic.tapped.points.items) traffic copies asked expected findings settled
+  pub frames : health.frames ≡ count_copies begins (reverse copies)
 
 -- over 1024 sources came by the taps of a capture
 pub record HasTooMany (capture : CaptureFields) (asked : Asked) : Type 0 where
   pub traffic : Traffic
-  pub came : IsTraffic asked.choice capture traffic
-  pub many : HasManySources traffic.tapped.copies.items
+  pub copies : List CaughtFields
+  pub came : IsTraffic asked.choice capture traffic copies
+  pub many : HasManySources copies
 
 -- why nothing is told
 abbrev pub IsFaultOf : CaptureFields → Asked → HealthFault → Type 0

@@ -19,7 +19,7 @@ use crate::stray_reasons::put_stray_reasons;
 use crate::whole_reasons::{absent_reason, dropped_reason, empty_reason, unjudged_reason};
 use hsr_capture_reader::Losses;
 use hsr_frame::{Mac, NoMemory};
-use hsr_frame_groups::Caught;
+use hsr_frame_groups::Noted;
 use hsr_sightings::{Ring, Sighting};
 use hsr_taps::Stray;
 use std::alloc::Global;
@@ -29,7 +29,7 @@ fn put_source_reasons(
     alloc: Global,
     reasons: &mut Vec<Reason>,
     ring: &Ring<'_>,
-    copies: &[Caught<'_>],
+    copies: &[Noted],
     macs: &[Mac],
     known: &Known,
 ) -> Result<(), NoMemory>
@@ -62,7 +62,7 @@ fn put_point_reasons(
     alloc: Global,
     reasons: &mut Vec<Reason>,
     ring: &Ring<'_>,
-    copies: &[Caught<'_>],
+    copies: &[Noted],
     sightings: &[Sighting],
     both: &[bool],
 ) -> Result<(), NoMemory>
@@ -82,7 +82,7 @@ fn put_point_reasons(
 /// Puts the reasons that speak of the whole capture, and of sources that are absent, behind others.
 fn put_whole_reasons(
     reasons: &mut Vec<Reason>,
-    copies: &[Caught<'_>],
+    copies: &[Noted],
     counts: &[Counts],
     losses: &[Losses],
     is_asked: &[bool],
@@ -115,7 +115,7 @@ pub(crate) struct Beside<'b> {
 pub(crate) fn all_reasons(
     alloc: Global,
     ring: &Ring<'_>,
-    copies: &[Caught<'_>],
+    copies: &[Noted],
     findings: &Findings,
     beside: Beside<'_>,
 ) -> Result<Vec<Reason>, NoMemory>

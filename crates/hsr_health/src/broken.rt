@@ -12,7 +12,7 @@ ghost use Rattle.hsr_health.specs.declared.broken.Span as the_span;
 
 use crate::counts::source_of;
 use hsr_frame::{Mac, NoMemory};
-use hsr_frame_groups::Caught;
+use hsr_frame_groups::Noted;
 use hsr_sightings::{Fate, Ring, Sighting, fate_of};
 use std::alloc::Global;
 
@@ -208,12 +208,12 @@ fn end_run(
 }
 
 /// Whether a frame to a group was seen at a point.
-fn is_at(copies: &[Caught<'_>], point: usize, seen: &Sighting) -> bool
+fn is_at(copies: &[Noted], point: usize, seen: &Sighting) -> bool
     ensures { result ≡ kept_at copies.now point seen.now }
 {
     match copies.get(seen.first() as usize) {
         None => false,
-        Some(caught) => caught.copy().is_to_group() && seen.point() == point,
+        Some(caught) => caught.is_to_group() && seen.point() == point,
     }
 }
 
@@ -269,7 +269,7 @@ fn put_seen(
     going: &mut Going,
     alloc: Global,
     ring: &Ring<'_>,
-    copies: &[Caught<'_>],
+    copies: &[Noted],
     of_copy: &[u16],
     macs: &[Mac],
     point: usize,
@@ -316,7 +316,7 @@ fn put_runs(
     spans: &mut Vec<Span>,
     alloc: Global,
     ring: &Ring<'_>,
-    copies: &[Caught<'_>],
+    copies: &[Noted],
     of_copy: &[u16],
     macs: &[Mac],
     sightings: &[Sighting],
@@ -348,7 +348,7 @@ fn put_runs_if(
     spans: &mut Vec<Span>,
     alloc: Global,
     ring: &Ring<'_>,
-    copies: &[Caught<'_>],
+    copies: &[Noted],
     of_copy: &[u16],
     macs: &[Mac],
     sightings: &[Sighting],
@@ -366,14 +366,14 @@ fn put_runs_if(
 }
 
 /// Whether a copy is of a group frame at a point, and came one way.
-fn is_seen(ring: &Ring<'_>, caught: &Caught<'_>, point: usize, way: u8) -> bool
+fn is_seen(ring: &Ring<'_>, caught: &Noted, point: usize, way: u8) -> bool
     ensures { result ≡ is_seen ring.now point way caught.now }
 {
-    ring.point_of(caught) == point && ring.way_of(caught) == way && caught.copy().is_to_group()
+    ring.point_of(caught) == point && ring.way_of(caught) == way && caught.is_to_group()
 }
 
 /// Whether the directions of a point carried group frames one way.
-fn sees(ring: &Ring<'_>, copies: &[Caught<'_>], point: usize, way: u8) -> bool
+fn sees(ring: &Ring<'_>, copies: &[Noted], point: usize, way: u8) -> bool
     ensures { result ≡ list_any (is_seen ring.now point way) copies.now }
 {
     for caught in copies {
@@ -385,7 +385,7 @@ fn sees(ring: &Ring<'_>, copies: &[Caught<'_>], point: usize, way: u8) -> bool
 }
 
 /// Whether the directions of a point carried group frames by both ways.
-fn sees_both_ways(ring: &Ring<'_>, copies: &[Caught<'_>], point: usize) -> bool
+fn sees_both_ways(ring: &Ring<'_>, copies: &[Noted], point: usize) -> bool
     ensures { result ≡ sees_both_ways ring.now copies.now point }
 {
     sees(ring, copies, point, 0) && sees(ring, copies, point, 1)
@@ -395,7 +395,7 @@ fn sees_both_ways(ring: &Ring<'_>, copies: &[Caught<'_>], point: usize) -> bool
 pub(crate) fn both_ways_of(
     alloc: Global,
     ring: &Ring<'_>,
-    copies: &[Caught<'_>],
+    copies: &[Noted],
     points: usize,
 ) -> Result<Vec<bool>, NoMemory>
     ensures { IfOk result (λ both. both.items ≡ map (sees_both_ways ring.now copies.now) (range_with_len 0 points)) }
@@ -411,7 +411,7 @@ pub(crate) fn both_ways_of(
 pub(crate) fn spans_of(
     alloc: Global,
     ring: &Ring<'_>,
-    copies: &[Caught<'_>],
+    copies: &[Noted],
     of_copy: &[u16],
     macs: &[Mac],
     sightings: &[Sighting],

@@ -14,7 +14,7 @@ ghost use Rattle.hsr_sightings.specs.Read.{AreOvertaken, AreSightings, TellsEach
 use crate::marks::Marks;
 use crate::reason::{Reason, Spot, What, Word, put_reason, what_in};
 use hsr_frame::NoMemory;
-use hsr_frame_groups::Caught;
+use hsr_frame_groups::Noted;
 use hsr_sightings::{Overtaken, Sighting, Sightings};
 use hsr_taps::interface_of;
 use std::alloc::Global;
@@ -99,7 +99,7 @@ pub(crate) fn first_of(flags: &[bool]) -> Option<usize>
 }
 
 /// Where a copy stands.
-pub(crate) fn spot_of(caught: &Caught<'_>) -> Spot
+pub(crate) fn spot_of(caught: &Noted) -> Spot
     ensures { result ≡ spot_of caught.now }
 {
     Spot {
@@ -109,10 +109,10 @@ pub(crate) fn spot_of(caught: &Caught<'_>) -> Spot
 }
 
 /// What is told of such a copy, which came so long after its frame's first copy at its point.
-fn what_of(mark: Mark, caught: &Caught<'_>, time: u64) -> What
+fn what_of(mark: Mark, caught: &Noted, time: u64) -> What
     ensures { result ≡ copy_what_by mark time caught.now }
 {
-    let (source, number) = (caught.copy().src, caught.copy().seq);
+    let (source, number) = (caught.source(), caught.seq());
     match mark {
         Mark::Storm | Mark::Again => What::Copy {
             interface: interface_of(caught.direction()),
@@ -128,19 +128,19 @@ fn what_of(mark: Mark, caught: &Caught<'_>, time: u64) -> What
         Mark::Size => What::Size {
             source,
             number,
-            size: caught.copy().size,
-            is: caught.copy().length.saturating_add(6),
+            size: caught.size(),
+            is: caught.length().saturating_add(6),
         },
         Mark::Lane => What::Lane {
             source,
             number,
-            path: caught.copy().path,
+            path: caught.path(),
         },
     }
 }
 
 /// How long after the first copy of its sighting a copy came, which is told by its number.
-fn after(sightings: &[Sighting], number: u32, caught: &Caught<'_>) -> u64
+fn after(sightings: &[Sighting], number: u32, caught: &Noted) -> u64
     ensures { (seen : the_sighting.Sighting) → slice_get sightings.now number ≡ Some seen → result ≡ caught.now.at - seen.at }
 {
     match sightings.get(number as usize) {
@@ -150,7 +150,7 @@ fn after(sightings: &[Sighting], number: u32, caught: &Caught<'_>) -> u64
 }
 
 /// How long after its frame's first copy at its point the copy at an index came.
-fn after_at(sightings: &Sightings, caught: &Caught<'_>, i: usize) -> u64
+fn after_at(sightings: &Sightings, caught: &Noted, i: usize) -> u64
     ensures { (seen : the_sighting.Sighting) (number : ℕ) → slice_get sightings.now.of_copy.items i ≡ Some number → slice_get sightings.now.all.items number ≡ Some seen
         → result ≡ caught.now.at - seen.at }
 {
@@ -163,7 +163,7 @@ fn after_at(sightings: &Sightings, caught: &Caught<'_>, i: usize) -> u64
 /// The reason that counts such copies, of which the first is at an index.
 fn reason_at(
     mark: Mark,
-    copies: &[Caught<'_>],
+    copies: &[Noted],
     sightings: &Sightings,
     first: usize,
     count: u64,
@@ -184,7 +184,7 @@ fn reason_at(
 fn reason_of(
     alloc: Global,
     mark: Mark,
-    copies: &[Caught<'_>],
+    copies: &[Noted],
     carried: &[u8],
     sightings: &Sightings,
     marks: &[Marks],
@@ -202,7 +202,7 @@ fn reason_of(
 }
 
 /// The reason that counts copies which were overtaken, of which this is the first.
-fn overtaken_at(copies: &[Caught<'_>], first: Overtaken, count: u64) -> Option<Reason>
+fn overtaken_at(copies: &[Noted], first: Overtaken, count: u64) -> Option<Reason>
     ensures { (c : CaughtFields) → slice_get copies.now first.copy ≡ Some c
         → IsToldWith the_word.Overtaken count (Some (spot_of c)) (behind_what_by first.behind c) result }
 {
@@ -213,15 +213,15 @@ fn overtaken_at(copies: &[Caught<'_>], first: Overtaken, count: u64) -> Option<R
         spot: Some(spot_of(caught)),
         what: What::Behind {
             interface: interface_of(caught.direction()),
-            source: caught.copy().src,
-            number: caught.copy().seq,
+            source: caught.source(),
+            number: caught.seq(),
             behind: first.behind,
         },
     })
 }
 
 /// The reason that counts copies which were overtaken, if there are any.
-fn overtaken_reason(copies: &[Caught<'_>], overtaken: &[Overtaken]) -> Option<Reason>
+fn overtaken_reason(copies: &[Noted], overtaken: &[Overtaken]) -> Option<Reason>
     ensures { AreOvertaken copies.now overtaken.now → IsOfCopies the_word.Overtaken is_overtaken behind_what (reverse copies.now) result }
 {
     if overtaken.is_empty() {
@@ -235,7 +235,7 @@ fn put_marked(
     alloc: Global,
     reasons: &mut Vec<Reason>,
     mark: Mark,
-    copies: &[Caught<'_>],
+    copies: &[Noted],
     carried: &[u8],
     sightings: &Sightings,
     marks: &[Marks],
@@ -254,7 +254,7 @@ fn put_marked(
 /// All reasons that count copies.
 pub(crate) fn copy_reasons(
     alloc: Global,
-    copies: &[Caught<'_>],
+    copies: &[Noted],
     carried: &[u8],
     sightings: &Sightings,
     marks: &[Marks],

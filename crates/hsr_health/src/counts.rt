@@ -12,7 +12,7 @@ ghost use Rattle.hsr_sightings.specs.Seen.{fate_of};
 
 use crate::marks::Marks;
 use hsr_frame::NoMemory;
-use hsr_frame_groups::Caught;
+use hsr_frame_groups::Noted;
 use hsr_sightings::{Fate, Ring, Sighting, fate_of, skew_of};
 use hsr_spread::{Amounts, Spread, Told};
 use std::alloc::Global;
@@ -105,14 +105,14 @@ pub(crate) fn source_of(of_copy: &[u16], copy: u32) -> usize
 }
 
 /// With one more copy, by its number.
-fn with_copy(counts: Counts, marks: Marks, caught: &Caught<'_>) -> Counts
+fn with_copy(counts: Counts, marks: Marks, caught: &Noted) -> Counts
     ensures { result ≡ counts_with counts marks caught.now.copy.seq }
 {
-    with(counts, marks, caught.copy().seq)
+    with(counts, marks, caught.seq())
 }
 
 /// Counts a copy of a source, if that is among them.
-fn count_copy(counts: &mut Vec<Counts>, source: usize, marks: Marks, caught: &Caught<'_>)
+fn count_copy(counts: &mut Vec<Counts>, source: usize, marks: Marks, caught: &Noted)
     ensures long { length counts.new.items ≡ length counts.old.items }
     ensures counts { counts.new.items ≡ changed (λ own. counts_with own marks caught.now.copy.seq) source counts.old.items }
 {
@@ -122,7 +122,7 @@ fn count_copy(counts: &mut Vec<Counts>, source: usize, marks: Marks, caught: &Ca
 }
 
 /// Counts the copies of each source.
-fn count_copies(counts: &mut Vec<Counts>, copies: &[Caught<'_>], of_copy: &[u16], marks: &[Marks])
+fn count_copies(counts: &mut Vec<Counts>, copies: &[Noted], of_copy: &[u16], marks: &[Marks])
     requires sources { length of_copy.now ≡ length copies.now }
     requires marks { length marks.now ≡ length copies.now }
     ensures long { length counts.new.items ≡ length counts.old.items }
@@ -166,7 +166,7 @@ fn count_fate(counts: &mut Vec<Counts>, source: usize, to_group: bool, fate: Fat
 fn count_sighting(
     counts: &mut Vec<Counts>,
     ring: &Ring<'_>,
-    copies: &[Caught<'_>],
+    copies: &[Noted],
     of_copy: &[u16],
     seen: &Sighting,
 )
@@ -176,12 +176,7 @@ fn count_sighting(
 {
     if let Some(caught) = copies.get(seen.first() as usize) {
         let source = source_of(of_copy, seen.first());
-        count_fate(
-            counts,
-            source,
-            caught.copy().is_to_group(),
-            fate_of(ring, seen),
-        );
+        count_fate(counts, source, caught.is_to_group(), fate_of(ring, seen));
     }
 }
 
@@ -189,7 +184,7 @@ fn count_sighting(
 fn count_fates(
     counts: &mut Vec<Counts>,
     ring: &Ring<'_>,
-    copies: &[Caught<'_>],
+    copies: &[Noted],
     of_copy: &[u16],
     sightings: &[Sighting],
 )
@@ -295,7 +290,7 @@ fn with_skews(
 pub(crate) fn counts_of(
     alloc: Global,
     ring: &Ring<'_>,
-    copies: &[Caught<'_>],
+    copies: &[Noted],
     of_copy: &[u16],
     sightings: &[Sighting],
     marks: &[Marks],

@@ -3,7 +3,6 @@ ghost use Rattle.std.specs.Prelude.{◌≡◌, ◌<◌, ◌≤◌, ◌^◌, List
 ghost use Rattle.hsr_health.specs.Counted.{AreSources, changed};
 ghost use Rattle.hsr_health.specs.Whole.{AreAlike, AreAsMany, AreCaught, AreFramed, AreMore, IsDevices, life_put, lives_of, one_life, one_unreadable, unreadable_of};
 ghost use Rattle.hsr_heard.specs.Hearing.{AreHeard};
-ghost use Rattle.hsr_sightings.specs.Read.{AreRead};
 ghost use Rattle.hsr_taps.specs.declared.direction.Taps as the_taps;
 
 use crate::counts::{Counts, no_counts, source_of};
@@ -11,9 +10,9 @@ use crate::framed::Framed;
 use crate::ledger::{Ledger, frame_runs, groups_of, ledger_of, life_runs};
 use crate::sources::Sources;
 use hsr_frame::NoMemory;
-use hsr_frame_groups::Caught;
-use hsr_heard::{Abouts, Heard, Hearing, abouts_of, hearing_of};
-use hsr_sightings::{Ring, begins_of};
+use hsr_frame_groups::Noted;
+use hsr_heard::{Abouts, Heard, Hearing, abouts_of};
+use hsr_sightings::Ring;
 use std::alloc::Global;
 
 /// With one more supervision frame that can be read.
@@ -100,42 +99,27 @@ pub(crate) struct Devices {
     pub(crate) lives: Ledger,
 }
 
-/// What the supervision frames among copies say. The list of copies that begin a frame is made for this alone, and goes here.
-fn heard_of(
-    alloc: Global,
-    ring: &Ring<'_>,
-    copies: &[Caught<'_>],
-    firsts: &[u32],
-) -> Result<Hearing, NoMemory>
-    requires few { length copies.now < 2 ^ 32 }
-    requires read { AreRead copies.now firsts.now }
-    ensures { IfOk result (λ hearing. AreHeard ring.now copies.now hearing.heard.items hearing.unread.items) }
-{
-    let began = begins_of(alloc, copies, firsts)?;
-    let hearing = hearing_of(alloc, ring, copies, began.as_slice())?;
-    Ok(hearing)
-}
-
 /// What supervision and the numbers of frames tell of sources. It comes before the frames at points are told: their list and that of the numbers
 /// take half as much room as all copies.
 pub(crate) fn devices_of(
     alloc: Global,
     ring: &Ring<'_>,
-    copies: &[Caught<'_>],
+    copies: &[Noted],
     sources: &Sources,
     framed: &Framed,
+    hearing: Hearing,
 ) -> Result<Devices, NoMemory>
     requires caught { AreCaught ring.now copies.now }
     requires sources { AreSources copies.now sources.now.macs.items sources.now.of_copy.items }
     requires few { length sources.now.macs.items ≤ 1024 }
     requires framed { (taps : List the_taps.Taps) × AreFramed ring.now copies.now taps framed.now }
+    requires heard { AreHeard ring.now copies.now hearing.heard.items hearing.unread.items }
     ensures { IfOk result (IsDevices ring.now copies.now sources.now) }
 {
     let many = sources.macs.len();
     let of_copy = sources.of_copy.as_slice();
-    let firsts = framed.firsts.as_slice();
     let mut counted = no_counts(alloc, many)?;
-    let Hearing { heard, unread } = heard_of(alloc, ring, copies, firsts)?;
+    let Hearing { heard, unread } = hearing;
     count_lives(&mut counted, heard.as_slice(), of_copy);
     count_unread(&mut counted, unread.as_slice(), of_copy);
     let said = life_runs(alloc, heard.as_slice(), of_copy)?;

@@ -16,7 +16,7 @@ use crate::broken::came_by;
 use crate::counts::more_if;
 use crate::marks::Marks;
 use hsr_frame::NoMemory;
-use hsr_frame_groups::Caught;
+use hsr_frame_groups::Noted;
 use hsr_sightings::{Carried, Fate, Overtaken, Ring, Sighting, fate_of};
 use hsr_taps::DIRECTIONS;
 use std::alloc::Global;
@@ -64,14 +64,14 @@ fn no_directions(alloc: Global, many: usize) -> Result<Vec<DirectionNumbers>, No
 }
 
 /// The direction of a copy.
-fn direction_of(caught: &Caught<'_>) -> usize
+fn direction_of(caught: &Noted) -> usize
     ensures { result ≡ caught.now.direction }
 {
     caught.direction()
 }
 
 /// Counts a copy of a direction, if that is among them.
-fn put_copy(all: &mut Vec<DirectionNumbers>, caught: &Caught<'_>, carried: u8, marks: Marks)
+fn put_copy(all: &mut Vec<DirectionNumbers>, caught: &Noted, carried: u8, marks: Marks)
     ensures long { length all.new.items ≡ length all.old.items }
     ensures all { all.new.items ≡ changed (direction_with carried marks.is_late) caught.now.direction all.old.items }
 {
@@ -82,12 +82,7 @@ fn put_copy(all: &mut Vec<DirectionNumbers>, caught: &Caught<'_>, carried: u8, m
 }
 
 /// Counts the copies of each direction.
-fn put_copies(
-    all: &mut Vec<DirectionNumbers>,
-    copies: &[Caught<'_>],
-    carried: &[u8],
-    marks: &[Marks],
-)
+fn put_copies(all: &mut Vec<DirectionNumbers>, copies: &[Noted], carried: &[u8], marks: &[Marks])
     requires carried { length carried.now ≡ length copies.now }
     requires marks { length marks.now ≡ length copies.now }
     ensures long { length all.new.items ≡ length all.old.items }
@@ -120,7 +115,7 @@ fn count_overtaken(all: &mut Vec<DirectionNumbers>, direction: usize)
 }
 
 /// Counts a copy that was overtaken, by its index.
-fn put_overtaken(all: &mut Vec<DirectionNumbers>, copies: &[Caught<'_>], copy: u32)
+fn put_overtaken(all: &mut Vec<DirectionNumbers>, copies: &[Noted], copy: u32)
     ensures long { length all.new.items ≡ length all.old.items }
     ensures all { all.new.items ≡ overtaken_put (slice_get copies.now copy) all.old.items }
 {
@@ -130,11 +125,7 @@ fn put_overtaken(all: &mut Vec<DirectionNumbers>, copies: &[Caught<'_>], copy: u
 }
 
 /// Counts the copies that were overtaken.
-fn put_all_overtaken(
-    all: &mut Vec<DirectionNumbers>,
-    copies: &[Caught<'_>],
-    overtaken: &[Overtaken],
-)
+fn put_all_overtaken(all: &mut Vec<DirectionNumbers>, copies: &[Noted], overtaken: &[Overtaken])
     ensures long { length all.new.items ≡ length all.old.items }
     ensures all { HaveNoOvertaken all.old.items → ArePassed copies.now overtaken.now all.old.items all.new.items }
 {
@@ -181,12 +172,12 @@ fn is_open(ring: &Ring<'_>, seen: &Sighting) -> bool
 }
 
 /// Whether a frame to a group was judged, and came one way.
-fn is_judged(ring: &Ring<'_>, copies: &[Caught<'_>], seen: &Sighting, way: u8) -> bool
+fn is_judged(ring: &Ring<'_>, copies: &[Noted], seen: &Sighting, way: u8) -> bool
     ensures { result ≡ is_judged ring.now copies.now way seen.now }
 {
     match copies.get(seen.first() as usize) {
         None => false,
-        Some(caught) => caught.copy().is_to_group() && !is_open(ring, seen) && came_by(seen, way),
+        Some(caught) => caught.is_to_group() && !is_open(ring, seen) && came_by(seen, way),
     }
 }
 
@@ -203,7 +194,7 @@ fn no_besides(alloc: Global, points: usize) -> Result<Vec<Beside>, NoMemory>
 fn besides_of(
     alloc: Global,
     ring: &Ring<'_>,
-    copies: &[Caught<'_>],
+    copies: &[Noted],
     sightings: &[Sighting],
     points: usize,
     way: u8,
@@ -289,7 +280,7 @@ fn joined(
 pub(crate) fn directions_of(
     alloc: Global,
     ring: &Ring<'_>,
-    copies: &[Caught<'_>],
+    copies: &[Noted],
     carried: &Carried,
     marks: &[Marks],
     sightings: &[Sighting],

@@ -2,13 +2,15 @@
 ghost use Rattle.std.specs.Prelude.{◌≡◌, IfErr, IfNone, IfOk, IfSome};
 ghost use Rattle.hsr_capture_reader.specs.Capture.{CaptureFields};
 ghost use Rattle.hsr_health.specs.Sources.{HasManySources};
-ghost use Rattle.hsr_health.specs.Whole.{HasTooMany, IsBounded, IsFaultOf, IsHealth, IsTold, IsTraffic, health_in, judged_among, judged_by, twice_among};
+ghost use Rattle.hsr_health.specs.Whole.{AreContents, HasTooMany, IsBounded, IsFaultOf, IsGathered, IsHealth, IsTold, IsTraffic, health_in, judged_among, judged_by, ring_in, twice_among};
 
 use crate::asked::Asked;
 use crate::broken::Span;
+use crate::contents::Contents;
 use crate::counts::Counts;
 use crate::directions::{DirectionNumbers, PointNumbers};
 use crate::findings::{Findings, findings_of};
+use crate::gathered::Gathered;
 use crate::kinds::{MalformedKind, UntaggedKind, VlanKind};
 use crate::known::Known;
 use crate::ledger::{GroupNumbers, Ledger};
@@ -18,9 +20,9 @@ use crate::measured::{Measured, greatest};
 use crate::reason::Reason;
 use crate::settled::{Settled, settled_of};
 use crate::sources::Sources;
-use crate::traffic::{Outline, Traffic, traffic_of};
-use hsr_capture_reader::Capture;
+use crate::traffic::{Outline, Traffic};
 use hsr_frame::{Mac, NoMemory};
+use hsr_frame_groups::Noted;
 use hsr_heard::{About, Abouts};
 use hsr_sightings::{Crowd, Ring};
 use hsr_taps::Tapped;
@@ -214,12 +216,15 @@ struct Told {
 fn told_of(
     alloc: Global,
     traffic: &Traffic<'_>,
+    copies: &[Noted],
+    contents: Contents,
     asked: &Asked<'_>,
     expected: &[Mac],
 ) -> Result<Option<Told>, NoMemory>
-    requires { (capture : CaptureFields) × IsBounded capture × IsTraffic asked.now.choice capture traffic.now }
-    ensures some { IfOk result (λ found. IfSome found (λ told. IsTold traffic.now asked.now expected.now told)) }
-    ensures none { IfOk result (λ found. IfNone found (HasManySources traffic.now.tapped.copies.items)) }
+    requires came { (capture : CaptureFields) × IsBounded capture × IsTraffic asked.now.choice capture traffic.now copies.now }
+    requires contents { AreContents (ring_in traffic.now asked.now.is_whole) copies.now traffic.now.tapped.taps.items contents }
+    ensures some { IfOk result (λ found. IfSome found (λ told. IsTold traffic.now copies.now asked.now expected.now told)) }
+    ensures none { IfOk result (λ found. IfNone found (HasManySources copies.now)) }
 {
     let points = traffic.tapped.point_of.as_slice();
     let ways = traffic.tapped.way_of.as_slice();
@@ -230,29 +235,34 @@ fn told_of(
         points,
         ways,
     };
-    let copies = traffic.tapped.copies.as_slice();
     let taps = traffic.tapped.taps.as_slice();
     let many = traffic.tapped.points.len();
-    let Some(findings) = findings_of(alloc, &ring, copies, taps, many)? else {
+    let Some(findings) = findings_of(alloc, &ring, copies, contents, taps, many)? else {
         return Ok(None);
     };
-    let settled = settled_of(alloc, &ring, traffic, asked, expected, &findings)?;
+    let settled = settled_of(alloc, &ring, traffic, copies, asked, expected, &findings)?;
     Ok(Some(Told { findings, settled }))
 }
 
-/// All that is told of what came by the taps; none where there are too many sources.
-fn health_in<'a>(
+/// All that is told of what was gathered; none where there are too many sources.
+fn health_if<'a>(
     alloc: Global,
-    traffic: Traffic<'a>,
+    gathered: Gathered<'a>,
     asked: &Asked<'_>,
     expected: &[Mac],
 ) -> Result<Option<Health<'a>>, NoMemory>
-    requires { (capture : CaptureFields) × IsBounded capture × IsTraffic asked.now.choice capture traffic }
-    ensures some { IfOk result (λ found. IfSome found (λ health. (capture : CaptureFields) → IsTraffic asked.now.choice capture traffic.entry
+    requires { (capture : CaptureFields) × IsBounded capture × IsGathered capture asked.now gathered }
+    ensures some { IfOk result (λ found. IfSome found (λ health. (capture : CaptureFields) → IsGathered capture asked.now gathered.entry
         → IsHealth capture asked.now expected.now health)) }
-    ensures none { IfOk result (λ found. IfNone found (HasManySources traffic.entry.tapped.copies.items)) }
+    ensures none { IfOk result (λ found. IfNone found ((capture : CaptureFields) → IsGathered capture asked.now gathered.entry → HasTooMany capture asked.now)) }
 {
-    let found = told_of(alloc, &traffic, asked, expected)?;
+    let Gathered {
+        traffic,
+        copies,
+        contents,
+    } = gathered;
+    let noted = copies.as_slice();
+    let found = told_of(alloc, &traffic, noted, contents, asked, expected)?;
     match found {
         None => Ok(None),
         Some(told) => {
@@ -263,35 +273,19 @@ fn health_in<'a>(
     }
 }
 
-/// All that is told of a capture; none where there are too many sources.
-fn health_if<'a>(
-    alloc: Global,
-    capture: Capture<'a>,
-    asked: &Asked<'a>,
-    expected: &[Mac],
-) -> Result<Option<Health<'a>>, NoMemory>
-    requires { IsBounded capture }
-    ensures some { IfOk result (λ found. IfSome found (λ health. IsHealth capture.entry asked.now expected.now health)) }
-    ensures none { IfOk result (λ found. IfNone found (HasTooMany capture.entry asked.now)) }
-{
-    let traffic = traffic_of(alloc, capture, &asked.choice)?;
-    let found = health_in(alloc, traffic, asked, expected)?;
-    Ok(found)
-}
-
-/// All that is told of a capture that was read, in which these sources are expected. `Sources` where there are too many of them, `Memory`
-/// where room is refused.
+/// All that is told of a capture, by what was gathered of it, in which these sources are expected. `Sources` where there are too many of
+/// them, `Memory` where room is refused.
 pub fn health_of<'a>(
     alloc: Global,
-    capture: Capture<'a>,
-    asked: &Asked<'a>,
+    gathered: Gathered<'a>,
+    asked: &Asked<'_>,
     expected: &[Mac],
 ) -> Result<Health<'a>, HealthFault>
-    requires { IsBounded capture }
-    ensures health { IfOk result (λ health. IsHealth capture.entry asked.now expected.now health) }
-    ensures fault { IfErr result (λ fault. IsFaultOf capture.entry asked.now fault) }
+    requires { (capture : CaptureFields) × IsBounded capture × IsGathered capture asked.now gathered }
+    ensures health { IfOk result (λ health. (capture : CaptureFields) → IsGathered capture asked.now gathered.entry → IsHealth capture asked.now expected.now health) }
+    ensures fault { IfErr result (λ fault. (capture : CaptureFields) → IsGathered capture asked.now gathered.entry → IsFaultOf capture asked.now fault) }
 {
-    match health_if(alloc, capture, asked, expected) {
+    match health_if(alloc, gathered, asked, expected) {
         Err(_) => Err(HealthFault::Memory),
         Ok(found) => match found {
             None => Err(HealthFault::Sources),

@@ -9,7 +9,7 @@ use crate::by_key::{KeyCount, counts_by_key};
 use crate::marks::Marks;
 use hsr_frame::{FrameFault, Mac, NoMemory};
 use hsr_frame_copies::NoCopy;
-use hsr_frame_groups::Caught;
+use hsr_frame_groups::Noted;
 use hsr_taps::Stray;
 use std::alloc::Global;
 
@@ -226,19 +226,19 @@ fn vlan_rank(control: Option<u16>) -> u64
 }
 
 /// The number of a copy's VLAN tag, if it begins a frame.
-fn vlan_key(caught: &Caught<'_>, begins: bool) -> Option<u64>
+fn vlan_key(caught: &Noted, begins: bool) -> Option<u64>
     ensures key { result ≡ vlan_if begins caught.now }
     ensures small { IfSome result (λ n. n < 65537) }
 {
     if begins {
-        Some(vlan_rank(caught.copy().vlan))
+        Some(vlan_rank(caught.vlan()))
     } else {
         None
     }
 }
 
 /// The numbers of the VLAN tags of all frames.
-fn vlan_keys(alloc: Global, copies: &[Caught<'_>], marks: &[Marks]) -> Result<Vec<u64>, NoMemory>
+fn vlan_keys(alloc: Global, copies: &[Noted], marks: &[Marks]) -> Result<Vec<u64>, NoMemory>
     requires { (is_by_lane : ℕ → Bool) × (ring : the_ring.Ring) × TellsEach (mark_of is_by_lane ring) copies.now marks.now }
     ensures { IfOk result (λ keys. AreVlanKeys copies.now (length copies.now) keys.items) }
 {
@@ -278,7 +278,7 @@ fn vlan_kinds(alloc: Global, counts: &[KeyCount]) -> Result<Vec<VlanKind>, NoMem
 /// Frames by their VLAN tags, those without one first.
 pub(crate) fn vlans_of(
     alloc: Global,
-    copies: &[Caught<'_>],
+    copies: &[Noted],
     marks: &[Marks],
 ) -> Result<Vec<VlanKind>, NoMemory>
     requires { (is_by_lane : ℕ → Bool) × (ring : the_ring.Ring) × TellsEach (mark_of is_by_lane ring) copies.now marks.now }

@@ -10,7 +10,7 @@ use crate::ledger::Ledger;
 use crate::seen::Seen;
 use crate::sources::Sources;
 use hsr_frame::NoMemory;
-use hsr_frame_groups::Caught;
+use hsr_frame_groups::Noted;
 use hsr_heard::Abouts;
 use hsr_sightings::Ring;
 use std::alloc::Global;
@@ -58,7 +58,7 @@ fn all_with_lives(
 pub(crate) fn known_of(
     alloc: Global,
     ring: &Ring<'_>,
-    copies: &[Caught<'_>],
+    copies: &[Noted],
     sources: &Sources,
     seen: &Seen,
     devices: Devices,

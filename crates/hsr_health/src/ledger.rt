@@ -11,7 +11,7 @@ ghost use Rattle.hsr_sightings.specs.Ring as the_ring;
 
 use crate::marks::{Marks, begun_among};
 use hsr_frame::{Mac, NoMemory};
-use hsr_frame_groups::Caught;
+use hsr_frame_groups::Noted;
 use hsr_heard::{About, Heard};
 use hsr_number_runs::{Gap, InRun, Numbered, Restart, Runs, RunsSoFar, elsewhere_of, gaps_of};
 use std::alloc::Global;
@@ -125,20 +125,14 @@ fn is_numbered(marks: Marks) -> bool
 }
 
 /// The number of a copy, if it has one.
-fn number_if(
-    caught: &Caught<'_>,
-    is_numbered: bool,
-    i: u32,
-    sender: u32,
-    group: u32,
-) -> Option<Numbered>
+fn number_if(caught: &Noted, is_numbered: bool, i: u32, sender: u32, group: u32) -> Option<Numbered>
     ensures { result ≡ number_if i sender group is_numbered caught.now }
 {
     if is_numbered {
         Some(Numbered {
             group,
             sender,
-            number: caught.copy().seq,
+            number: caught.seq(),
             at: caught.at(),
             copy: i,
         })
@@ -165,7 +159,7 @@ fn put_number(
 /// The numbers of frames in their runs, in the order of time: those of copies that begin one and are no clash.
 pub(crate) fn frame_runs(
     alloc: Global,
-    copies: &[Caught<'_>],
+    copies: &[Noted],
     of_copy: &[u16],
     groups: &[usize],
     marks: &[Marks],

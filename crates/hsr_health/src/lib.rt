@@ -20,6 +20,8 @@
 //! - `order`: which of them comes first
 //! - `asked`: what is asked of a capture
 //! - `traffic`: what came by its taps, and when
+//! - `contents`: what copies tell by their payloads
+//! - `gathered`: what is told of a capture by the octets of its packets
 //! - `framed`: what copies tell of one another as copies of frames
 //! - `devices`: what supervision and the numbers of frames tell of sources
 //! - `seen`: what copies tell of one another
@@ -35,12 +37,14 @@ mod all_reasons;
 mod asked;
 mod broken;
 mod by_key;
+mod contents;
 mod copy_reasons;
 mod counts;
 mod devices;
 mod directions;
 mod findings;
 mod framed;
+mod gathered;
 mod health;
 mod kinds;
 mod known;
@@ -64,6 +68,7 @@ pub use asked::Asked;
 pub use broken::{Span, is_thin};
 pub use counts::{Counts, Fates};
 pub use directions::{DirectionNumbers, PointNumbers};
+pub use gathered::{Gathered, gathered_of};
 pub use health::{Health, HealthFault, health_of};
 pub use kinds::{MalformedKind, UntaggedKind, VlanKind};
 pub use ledger::GroupNumbers;

@@ -50,7 +50,7 @@ fn weigh(packet: &Packet<'_>) -> Weighed
 {
     Weighed {
         at: packet.moment,
-        bits: bits_of(packet.length),
+        bits: bits_of(packet.length()),
     }
 }
 
@@ -73,7 +73,7 @@ fn put_own(
 ) -> Result<(), NoMemory>
     ensures { OnOk result (own.new.items ≡ own.old.items ++ (if packet.now.interface == interface then k ∷ [] else [])) }
 {
-    if packet.interface == interface {
+    if packet.interface() == interface {
         own.push(k)?;
     }
     Ok(())

@@ -136,7 +136,7 @@ fn mark_by(
 {
     let by_lane = is_by_lane.get(caught.direction()).copied().unwrap_or(false);
     let is_wrong_size = !has_right_size(&caught.copy());
-    let is_wrong_lane = !by_lane && caught.copy().path % 2 != ring.way_of(caught);
+    let is_wrong_lane = !by_lane && caught.copy().path % 2 != ring.way_at(caught.direction());
     Marks::new(begins, is_clash, false, is_wrong_size, is_wrong_lane)
 }
 

@@ -10,7 +10,7 @@ use crate::directions::{DirectionNumbers, PointNumbers, directions_of, points_to
 use crate::seen::Seen;
 use crate::sources::Sources;
 use hsr_frame::NoMemory;
-use hsr_frame_groups::Caught;
+use hsr_frame_groups::Noted;
 use hsr_sightings::{Crowd, Ring, crowds_of, needed_of};
 use std::alloc::Global;
 
@@ -65,7 +65,7 @@ pub(crate) struct Measured {
 pub(crate) fn measured_of(
     alloc: Global,
     ring: &Ring<'_>,
-    copies: &[Caught<'_>],
+    copies: &[Noted],
     sources: &Sources,
     seen: &Seen,
     many: usize,

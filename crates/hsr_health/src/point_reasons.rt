@@ -15,19 +15,19 @@ ghost use Rattle.hsr_taps.specs.Tallies.{is_at as is_in};
 use crate::copy_reasons::{count_of, first_of, spot_of};
 use crate::reason::{Reason, What, Word};
 use hsr_frame::NoMemory;
-use hsr_frame_groups::Caught;
+use hsr_frame_groups::Noted;
 use hsr_sightings::{Fate, Ring, Sighting, fate_of};
 use std::alloc::Global;
 
 /// Whether a copy is of a group frame at a point.
-fn is_group_at(ring: &Ring<'_>, caught: &Caught<'_>, point: usize) -> bool
+fn is_group_at(ring: &Ring<'_>, caught: &Noted, point: usize) -> bool
     ensures { result ≡ (is_at ring.now point caught.now && is_group caught.now.copy.dst) }
 {
-    ring.point_of(caught) == point && caught.copy().is_to_group()
+    ring.point_of(caught) == point && caught.is_to_group()
 }
 
 /// Whether a point saw a group frame.
-fn saw_group(ring: &Ring<'_>, copies: &[Caught<'_>], point: usize) -> bool
+fn saw_group(ring: &Ring<'_>, copies: &[Noted], point: usize) -> bool
     ensures { result ≡ saw_group ring.now copies.now point }
 {
     for caught in copies {
@@ -39,7 +39,7 @@ fn saw_group(ring: &Ring<'_>, copies: &[Caught<'_>], point: usize) -> bool
 }
 
 /// Whether a point saw group frames on one way alone, by whether it saw them on both ways.
-fn is_one_sided(ring: &Ring<'_>, copies: &[Caught<'_>], point: usize, sees_both: bool) -> bool
+fn is_one_sided(ring: &Ring<'_>, copies: &[Noted], point: usize, sees_both: bool) -> bool
     ensures { result ≡ (saw_group ring.now copies.now point && not sees_both) }
 {
     saw_group(ring, copies, point) && !sees_both
@@ -49,7 +49,7 @@ fn is_one_sided(ring: &Ring<'_>, copies: &[Caught<'_>], point: usize, sees_both:
 fn one_sided_of(
     alloc: Global,
     ring: &Ring<'_>,
-    copies: &[Caught<'_>],
+    copies: &[Noted],
     both: &[bool],
 ) -> Result<Vec<bool>, NoMemory>
     requires { both.now ≡ map (sees_both_ways ring.now copies.now) (range_with_len 0 (length both.now)) }
@@ -63,14 +63,14 @@ fn one_sided_of(
 }
 
 /// Whether a copy is of a group frame at one of the points that are set.
-fn is_at_one_sided(ring: &Ring<'_>, caught: &Caught<'_>, flags: &[bool]) -> bool
+fn is_at_one_sided(ring: &Ring<'_>, caught: &Noted, flags: &[bool]) -> bool
     ensures { result ≡ (is_in flags.now (point_of ring.now caught.now) && is_group caught.now.copy.dst) }
 {
-    flags.get(ring.point_of(caught)).copied().unwrap_or(false) && caught.copy().is_to_group()
+    flags.get(ring.point_of(caught)).copied().unwrap_or(false) && caught.is_to_group()
 }
 
 /// The first copy of a group frame at one of the points that are set, by its index.
-fn first_one_sided(ring: &Ring<'_>, copies: &[Caught<'_>], flags: &[bool]) -> Option<usize>
+fn first_one_sided(ring: &Ring<'_>, copies: &[Noted], flags: &[bool]) -> Option<usize>
     ensures { IsFirstAt (λ c. is_in flags.now (point_of ring.now c) && is_group c.copy.dst) copies.now result }
 {
     for i in 0..copies.len() {
@@ -82,7 +82,7 @@ fn first_one_sided(ring: &Ring<'_>, copies: &[Caught<'_>], flags: &[bool]) -> Op
 }
 
 /// The reason that counts points which saw group frames on one way alone, of which the first saw the copy at an index.
-fn one_sided_at(ring: &Ring<'_>, copies: &[Caught<'_>], first: usize, count: u64) -> Option<Reason>
+fn one_sided_at(ring: &Ring<'_>, copies: &[Noted], first: usize, count: u64) -> Option<Reason>
     ensures { (c : CaughtFields) → slice_get copies.now first ≡ Some c → IsToldWith the_word.OneSided count (Some (spot_of c)) (way_what ring.now c) result }
 {
     let caught = copies.get(first)?;
@@ -101,7 +101,7 @@ fn one_sided_at(ring: &Ring<'_>, copies: &[Caught<'_>], first: usize, count: u64
 pub(crate) fn one_sided_reason(
     alloc: Global,
     ring: &Ring<'_>,
-    copies: &[Caught<'_>],
+    copies: &[Noted],
     both: &[bool],
 ) -> Result<Option<Reason>, NoMemory>
     requires { both.now ≡ map (sees_both_ways ring.now copies.now) (range_with_len 0 (length both.now)) }
@@ -115,13 +115,13 @@ pub(crate) fn one_sided_reason(
 }
 
 /// Whether a frame is a group frame that came one way alone, at a point that sees both.
-fn is_one_way(ring: &Ring<'_>, copies: &[Caught<'_>], both: &[bool], seen: &Sighting) -> bool
+fn is_one_way(ring: &Ring<'_>, copies: &[Noted], both: &[bool], seen: &Sighting) -> bool
     ensures { result ≡ is_kept_one_way ring.now copies.now both.now seen.now }
 {
     match copies.get(seen.first() as usize) {
         None => false,
         Some(caught) => {
-            caught.copy().is_to_group()
+            caught.is_to_group()
                 && fate_of(ring, seen) == Fate::Once
                 && both.get(seen.point()).copied().unwrap_or(false)
         }
@@ -132,7 +132,7 @@ fn is_one_way(ring: &Ring<'_>, copies: &[Caught<'_>], both: &[bool], seen: &Sigh
 fn one_way_of(
     alloc: Global,
     ring: &Ring<'_>,
-    copies: &[Caught<'_>],
+    copies: &[Noted],
     both: &[bool],
     all: &[Sighting],
 ) -> Result<Vec<bool>, NoMemory>
@@ -146,7 +146,7 @@ fn one_way_of(
 }
 
 /// The reason that counts group frames which came one way alone, of which the first is at an index.
-fn one_way_at(copies: &[Caught<'_>], all: &[Sighting], first: usize, count: u64) -> Option<Reason>
+fn one_way_at(copies: &[Noted], all: &[Sighting], first: usize, count: u64) -> Option<Reason>
     ensures { (seen : the_sighting.Sighting) (c : CaughtFields) → slice_get all.now first ≡ Some seen → slice_get copies.now seen.first ≡ Some c
         → IsToldWith the_word.OneWay count (Some (spot_of c)) (kept_alone_what seen c) result }
 {
@@ -158,8 +158,8 @@ fn one_way_at(copies: &[Caught<'_>], all: &[Sighting], first: usize, count: u64)
         spot: Some(spot_of(caught)),
         what: What::Alone {
             point: seen.point(),
-            source: caught.copy().src,
-            number: caught.copy().seq,
+            source: caught.source(),
+            number: caught.seq(),
             way: seen.way(),
         },
     })
@@ -169,7 +169,7 @@ fn one_way_at(copies: &[Caught<'_>], all: &[Sighting], first: usize, count: u64)
 pub(crate) fn one_way_reason(
     alloc: Global,
     ring: &Ring<'_>,
-    copies: &[Caught<'_>],
+    copies: &[Noted],
     both: &[bool],
     all: &[Sighting],
 ) -> Result<Option<Reason>, NoMemory>

@@ -6,7 +6,7 @@ ghost use Rattle.hsr_taps.specs.declared.direction.Taps as the_taps;
 use crate::framed::Framed;
 use crate::marks::{Marks, with_lates};
 use hsr_frame::NoMemory;
-use hsr_frame_groups::Caught;
+use hsr_frame_groups::Noted;
 use hsr_sightings::{Carried, Overtaken, Ring, Sightings, lates_of, sightings_of};
 use std::alloc::Global;
 
@@ -23,7 +23,7 @@ pub(crate) struct Seen {
 pub(crate) fn seen_of(
     alloc: Global,
     ring: &Ring<'_>,
-    copies: &[Caught<'_>],
+    copies: &[Noted],
     framed: Framed,
 ) -> Result<Seen, NoMemory>
     requires caught { AreCaught ring.now copies.now }

@@ -14,7 +14,7 @@ use crate::reason::Reason;
 use crate::traffic::Traffic;
 use crate::whole_reasons::absent_of;
 use hsr_frame::{Mac, NoMemory};
-use hsr_frame_groups::Caught;
+use hsr_frame_groups::Noted;
 use hsr_sightings::Ring;
 use std::alloc::Global;
 
@@ -26,7 +26,7 @@ fn is_of_one_source(counts: &[Counts]) -> bool
 }
 
 /// What decides the order of reasons.
-fn facts_of(copies: &[Caught<'_>], findings: &Findings) -> Facts
+fn facts_of(copies: &[Noted], findings: &Findings) -> Facts
     ensures { AreFacts copies.now findings.now result }
 {
     let counts = findings.known.counts.as_slice();
@@ -54,16 +54,16 @@ pub(crate) fn settled_of(
     alloc: Global,
     ring: &Ring<'_>,
     traffic: &Traffic<'_>,
+    copies: &[Noted],
     asked: &Asked<'_>,
     expected: &[Mac],
     findings: &Findings,
 ) -> Result<Settled, NoMemory>
-    requires findings { (taps : List the_taps.Taps) × (many : ℕ) × AreFindings ring.now traffic.now.tapped.copies.items taps many findings.now }
+    requires findings { (taps : List the_taps.Taps) × (many : ℕ) × AreFindings ring.now copies.now taps many findings.now }
     requires interfaces { HaveInterfaces traffic.now.tapped.strays.items }
-    ensures { IfOk result (λ settled. (taps : List the_taps.Taps) (many : ℕ) → AreFindings ring.now traffic.now.tapped.copies.items taps many findings.now
-        → IsSettled ring.now taps many traffic.now asked.now expected.now findings.now settled) }
+    ensures { IfOk result (λ settled. (taps : List the_taps.Taps) (many : ℕ) → AreFindings ring.now copies.now taps many findings.now
+        → IsSettled ring.now taps many traffic.now copies.now asked.now expected.now findings.now settled) }
 {
-    let copies = traffic.tapped.copies.as_slice();
     let strays = traffic.tapped.strays.as_slice();
     let is_asked = asked_of(alloc, &asked.choice, traffic.outline.interfaces.len())?;
     let losses = traffic.outline.losses.as_slice();

@@ -7,7 +7,7 @@ use crate::reason::{Reason, Spot, What, Word};
 use crate::source_reasons::spot_at;
 use crate::whole_reasons::is_told;
 use hsr_frame::{Mac, NoMemory};
-use hsr_frame_groups::Caught;
+use hsr_frame_groups::Noted;
 use hsr_heard::{About, SILENT, Silence};
 use hsr_sightings::Ring;
 use std::alloc::Global;
@@ -85,7 +85,7 @@ fn silent_what(first: &Option<Silence>, untold: &[Mac]) -> Option<What>
 }
 
 /// Where the first silence begins.
-fn silence_spot(copies: &[Caught<'_>], first: &Option<Silence>) -> Option<Spot>
+fn silence_spot(copies: &[Noted], first: &Option<Silence>) -> Option<Spot>
     ensures { result ≡ silence_spot copies.now first.now }
 {
     match first {
@@ -101,7 +101,7 @@ fn silence_spot(copies: &[Caught<'_>], first: &Option<Silence>) -> Option<Spot>
 pub(crate) fn silent_reason(
     alloc: Global,
     ring: &Ring<'_>,
-    copies: &[Caught<'_>],
+    copies: &[Noted],
     macs: &[Mac],
     abouts: &[About],
     silences: &[Silence],

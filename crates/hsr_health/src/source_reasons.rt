@@ -11,13 +11,13 @@ use crate::copy_reasons::spot_of;
 use crate::counts::Counts;
 use crate::reason::{Reason, Spot, What, Word};
 use hsr_frame::{Mac, NoMemory};
-use hsr_frame_groups::Caught;
+use hsr_frame_groups::Noted;
 use hsr_number_runs::{Gap, Restart};
 use hsr_sightings::Crowd;
 use std::alloc::Global;
 
 /// Where a copy of this index stands.
-pub(crate) fn spot_at(copies: &[Caught<'_>], copy: u32) -> Option<Spot>
+pub(crate) fn spot_at(copies: &[Noted], copy: u32) -> Option<Spot>
     ensures { result ≡ spot_at copies.now copy }
 {
     match copies.get(copy as usize) {
@@ -152,7 +152,7 @@ fn life_what(macs: &[Mac], first: Gap) -> What
 }
 
 /// Numbers that were lost, by the gaps that count.
-fn lost_in(copies: &[Caught<'_>], macs: &[Mac], gaps: &[Gap]) -> Option<Reason>
+fn lost_in(copies: &[Noted], macs: &[Mac], gaps: &[Gap]) -> Option<Reason>
     ensures { IsOfSome the_word.Lost (lost_what macs.now) copies.now gaps.now result }
 {
     if gaps.is_empty() {
@@ -170,7 +170,7 @@ fn lost_in(copies: &[Caught<'_>], macs: &[Mac], gaps: &[Gap]) -> Option<Reason>
 /// Numbers that were lost: gaps count where a tap saw single frames of their group at all.
 pub(crate) fn lost_reason(
     alloc: Global,
-    copies: &[Caught<'_>],
+    copies: &[Noted],
     macs: &[Mac],
     groups: &[usize],
     counts: &[Counts],
@@ -185,7 +185,7 @@ pub(crate) fn lost_reason(
 }
 
 /// Supervision numbers that are missing.
-pub(crate) fn life_reason(copies: &[Caught<'_>], macs: &[Mac], gaps: &[Gap]) -> Option<Reason>
+pub(crate) fn life_reason(copies: &[Noted], macs: &[Mac], gaps: &[Gap]) -> Option<Reason>
     ensures { IsOfSome the_word.Life (life_what macs.now) copies.now gaps.now result }
 {
     if gaps.is_empty() {
@@ -212,11 +212,7 @@ fn restart_what(macs: &[Mac], first: Restart) -> What
 }
 
 /// Numbers that began anew.
-pub(crate) fn restart_reason(
-    copies: &[Caught<'_>],
-    macs: &[Mac],
-    restarts: &[Restart],
-) -> Option<Reason>
+pub(crate) fn restart_reason(copies: &[Noted], macs: &[Mac], restarts: &[Restart]) -> Option<Reason>
     ensures { IsOfRestarts copies.now macs.now restarts.now result }
 {
     if restarts.is_empty() {
@@ -232,7 +228,7 @@ pub(crate) fn restart_reason(
 }
 
 /// More frames in 400 ms than a table has.
-pub(crate) fn crowded_reason(copies: &[Caught<'_>], crowd: Crowd, table: u64) -> Option<Reason>
+pub(crate) fn crowded_reason(copies: &[Noted], crowd: Crowd, table: u64) -> Option<Reason>
     ensures { IsOfCrowd copies.now crowd table result }
 {
     if crowd.frames as u64 > table {

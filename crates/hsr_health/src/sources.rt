@@ -7,7 +7,7 @@ ghost use Rattle.hsr_address.specs.Numbers.{number_of};
 
 use hsr_address::number_of;
 use hsr_frame::{Mac, NoMemory};
-use hsr_frame_groups::Caught;
+use hsr_frame_groups::Noted;
 use std::alloc::Global;
 
 /// The most sources of a capture.
@@ -21,10 +21,10 @@ pub(crate) struct Sources {
 }
 
 /// The source of a copy.
-fn source_of(caught: &Caught<'_>) -> Mac
+fn source_of(caught: &Noted) -> Mac
     ensures { result ≡ caught.now.copy.src }
 {
-    caught.copy().src
+    caught.source()
 }
 
 /// Whether the address at an index has a lesser number than another.
@@ -105,7 +105,7 @@ fn put_mac(macs: &mut Vec<Mac>, mac: Mac) -> Result<(), NoMemory>
 }
 
 /// The addresses that copies were sent by, in order; none where there are too many.
-fn macs_of(alloc: Global, copies: &[Caught<'_>]) -> Result<Option<Vec<Mac>>, NoMemory>
+fn macs_of(alloc: Global, copies: &[Noted]) -> Result<Option<Vec<Mac>>, NoMemory>
     ensures some { IfOk result (λ found. IfSome found (λ macs. AreMacs copies.now (length copies.now) macs.items)) }
     ensures few { IfOk result (λ found. IfSome found (λ macs. length macs.items ≤ 1024)) }
     ensures none { IfOk result (λ found. IfNone found (HasManySources copies.now)) }
@@ -122,7 +122,7 @@ fn macs_of(alloc: Global, copies: &[Caught<'_>]) -> Result<Option<Vec<Mac>>, NoM
 }
 
 /// Of each copy the index of its source among the addresses of all.
-fn indexes_of(alloc: Global, copies: &[Caught<'_>], macs: &[Mac]) -> Result<Vec<u16>, NoMemory>
+fn indexes_of(alloc: Global, copies: &[Noted], macs: &[Mac]) -> Result<Vec<u16>, NoMemory>
     requires few { length macs.now ≤ 1024 }
     requires macs { AreMacs copies.now (length copies.now) macs.now }
     ensures { IfOk result (λ indexes. AreIndexes copies.now macs.now indexes.items) }
@@ -136,7 +136,7 @@ fn indexes_of(alloc: Global, copies: &[Caught<'_>], macs: &[Mac]) -> Result<Vec<
 }
 
 /// The sources of copies; none where there are too many.
-pub(crate) fn sources_of(alloc: Global, copies: &[Caught<'_>]) -> Result<Option<Sources>, NoMemory>
+pub(crate) fn sources_of(alloc: Global, copies: &[Noted]) -> Result<Option<Sources>, NoMemory>
     ensures some { IfOk result (λ found. IfSome found (λ s. AreSources copies.now s.macs.items s.of_copy.items)) }
     ensures few { IfOk result (λ found. IfSome found (λ s. length s.macs.items ≤ 1024)) }
     ensures none { IfOk result (λ found. IfNone found (HasManySources copies.now)) }

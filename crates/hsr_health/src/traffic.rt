@@ -5,8 +5,9 @@ ghost use Rattle.hsr_health.specs.Whole.{IsBounded, IsInTime, IsTraffic, end_by,
 use crate::load::{Load, loads_of};
 use hsr_capture_reader::{Capture, Interface, Losses, Packet};
 use hsr_frame::NoMemory;
+use hsr_frame_groups::Caught;
 use hsr_packet_order::{Disorder, disorder_of, sort_by_time};
-use hsr_taps::{Choice, Tapped, looked_at, tap};
+use hsr_taps::{Came, Choice, Tapped, looked_at, tap};
 use std::alloc::Global;
 
 /// The moment of the first of packets.
@@ -64,14 +65,21 @@ pub(crate) struct Traffic<'a> {
     pub(crate) loads: Vec<Load>,
 }
 
+/// The same, with the copies among it.
+#[derive(Drop)]
+pub(crate) struct Arrived<'n, 'a> {
+    pub(crate) traffic: Traffic<'n>,
+    pub(crate) copies: Vec<Caught<'a>>,
+}
+
 /// What came by the taps of a capture.
-pub(crate) fn traffic_of<'a>(
+pub(crate) fn traffic_of<'n, 'a>(
     alloc: Global,
-    capture: Capture<'a>,
-    choice: &Choice<'a>,
-) -> Result<Traffic<'a>, NoMemory>
+    capture: Capture<'n, 'a>,
+    choice: &Choice<'n>,
+) -> Result<Arrived<'n, 'a>, NoMemory>
     requires { IsBounded capture }
-    ensures { IfOk result (λ traffic. IsTraffic choice.now capture.entry traffic) }
+    ensures { IfOk result (λ arrived. IsTraffic choice.now capture.entry arrived.traffic arrived.copies.items) }
 {
     let Capture {
         interfaces,
@@ -91,18 +99,22 @@ pub(crate) fn traffic_of<'a>(
     let start = first_moment(in_order);
     let end = last_moment(in_order, end);
     // The packets go as the copies come: nothing more is told of them, and they take more room than the copies.
-    let tapped = tap(alloc, by_number, sorted, choice)?;
-    Ok(Traffic {
-        outline: Outline {
-            interfaces,
-            losses,
-            packets: many,
-            disorder,
-            start,
-            end,
-            is_short,
+    let Came { tapped, copies } = tap(alloc, by_number, sorted, choice)?;
+    let outline = Outline {
+        interfaces,
+        losses,
+        packets: many,
+        disorder,
+        start,
+        end,
+        is_short,
+    };
+    Ok(Arrived {
+        traffic: Traffic {
+            outline,
+            tapped,
+            loads,
         },
-        tapped,
-        loads,
+        copies,
     })
 }

@@ -9,12 +9,12 @@ use crate::counts::Counts;
 use crate::reason::{Reason, What, Word};
 use hsr_capture_reader::Losses;
 use hsr_frame::{Mac, NoMemory};
-use hsr_frame_groups::Caught;
+use hsr_frame_groups::Noted;
 use hsr_heard::About;
 use std::alloc::Global;
 
 /// No tagged frame came.
-pub(crate) fn empty_reason(copies: &[Caught<'_>]) -> Option<Reason>
+pub(crate) fn empty_reason(copies: &[Noted]) -> Option<Reason>
     ensures { IsAlone the_word.Empty the_what.NoFrame (length copies.now == 0) result }
 {
     if copies.is_empty() {
@@ -49,14 +49,14 @@ fn is_any_judged(counts: &[Counts]) -> bool
 }
 
 /// Whether there are copies, and all their group frames are open.
-fn is_unjudged(copies: &[Caught<'_>], counts: &[Counts]) -> bool
+fn is_unjudged(copies: &[Noted], counts: &[Counts]) -> bool
     ensures { result ≡ is_unjudged copies.now counts.now }
 {
     !is_any_judged(counts) && !copies.is_empty()
 }
 
 /// No group frame came twice, once or more.
-pub(crate) fn unjudged_reason(copies: &[Caught<'_>], counts: &[Counts]) -> Option<Reason>
+pub(crate) fn unjudged_reason(copies: &[Noted], counts: &[Counts]) -> Option<Reason>
     ensures { IsAlone the_word.Unjudged the_what.AllOpen (is_unjudged copies.now counts.now) result }
 {
     if is_unjudged(copies, counts) {

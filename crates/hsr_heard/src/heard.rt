@@ -62,7 +62,7 @@ fn put_read(
                 source: caught.copy().src,
                 copy: i,
                 at: caught.at(),
-                way: ring.way_of(caught),
+                way: ring.way_at(caught.direction()),
                 begins,
             })?;
         }

@@ -112,6 +112,8 @@ impl Link {
     }
 
     /// Takes the oldest copy that waits in a direction, if one does. Needs no memory.
+    // Inline, since a call would pass the copy through memory.
+    #[inline(always)]
     pub fn take(&mut self, dir: Dir) -> Option<Carried>
         ensures { (result, self.new) ≡ take_step self.old dir }
     {

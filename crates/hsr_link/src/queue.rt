@@ -33,6 +33,8 @@ pub(crate) fn put_fate(is_cut: bool, queue: &HeapCircularBuffer<Waiting>) -> Fat
 }
 
 /// Lets a copy of a row wait, if the row does.
+// Inline, since a call would pass the copy through memory.
+#[inline(always)]
 fn queue_up(
     queue: &mut HeapCircularBuffer<Waiting>,
     index: usize,
@@ -90,6 +92,8 @@ pub(crate) fn has_first(queue: &HeapCircularBuffer<Waiting>) -> bool
 }
 
 /// Gives the first copy that waits, and turns its row to another fate.
+// Inline, since a call would pass the copy through memory.
+#[inline(always)]
 pub(crate) fn turn_first(
     queue: &mut HeapCircularBuffer<Waiting>,
     rows: &mut [Row],

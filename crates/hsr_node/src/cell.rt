@@ -34,6 +34,8 @@ impl<const C: usize> NodeCell<C> {
     ///
     /// A refusal hands the event back, and the pass is as before: `NoMemory`, or what a legal record refuses it for.
     /// The pass's room and its copy of the event are made before the lock is taken.
+    // Inline, since a call would pass the event through memory.
+    #[inline(always)]
     pub fn step(
         &self,
         rt: &impl Wait,

@@ -14,6 +14,8 @@ use hsr_tag::{EitherView, FrameView, SeenView, Spelled, look_at};
 pub type FrameOctets = ArrayVec<u8, MAX_FRAME>;
 
 /// The octets of a frame as it leaves by a ring port, with its number and the port's path (IEC 62439-3 clause 5.6).
+// Inline, since a call would pass the pieces through memory.
+#[inline(always)]
 pub fn ring_octets<'a>(port: RingPort, seq: u16, frame: &FrameView<'a>) -> Spelled<'a>
     ensures { result ≡ ring_octets port seq frame.now }
 {
@@ -22,6 +24,8 @@ pub fn ring_octets<'a>(port: RingPort, seq: u16, frame: &FrameView<'a>) -> Spell
 
 /// The octets of a frame of the node's own, or of one that it numbers or untags: plain at an edge, and on a ring with
 /// its number (IEC 62439-3 clause 5.6).
+// Inline, since a call would pass the pieces through memory.
+#[inline(always)]
 fn octets_at<'a>(side: Side, seq: Option<u16>, frame: &FrameView<'a>) -> Option<Spelled<'a>>
     ensures { result ≡ octets_at side seq frame.now }
 {
@@ -52,6 +56,8 @@ fn written<'a>(
 }
 
 /// The frame that came, without its tag.
+// Inline, since a call would pass the frame through memory.
+#[inline(always)]
 fn plain_in<'a>(seen: Result<SeenView<'a>, FrameFault>) -> Option<FrameView<'a>>
     ensures { result ≡ plain_in seen.entry }
 {
@@ -65,6 +71,8 @@ fn plain_in<'a>(seen: Result<SeenView<'a>, FrameFault>) -> Option<FrameView<'a>>
 }
 
 /// The octets of the frame that came, without its tag; `None` where no frame came.
+// Inline, since a call would pass the pieces through memory.
+#[inline(always)]
 pub fn plain_octets(octets: &[u8]) -> Option<Spelled<'_>>
     ensures { result ≡ plain_octets octets.now }
 {
@@ -121,6 +129,8 @@ pub fn is_left_by(outcome: &Outcome, port: u8) -> bool
 ghost use Rattle.std.specs.Prelude.{slice_get, unwrap_or, false};
 
 /// What leaves by a port by which something does.
+// Inline, since a call would pass the pieces through memory.
+#[inline(always)]
 #[tactic(auto, unfolding(crate::specs::Copies::passed_octets))]
 fn passed<'a>(place: &Place, event: &'a Event, outcome: &Outcome, port: u8) -> Option<Spelled<'a>>
     ensures { result ≡ passed_octets place.now event.now outcome.now port }
@@ -163,6 +173,8 @@ pub fn spelled_out<'a>(
 
 /// The octets of the plain frame that goes up after an event with this outcome, if one does. What stands in the event is
 /// not copied.
+// Inline, since a call would pass the pieces through memory.
+#[inline(always)]
 #[tactic(auto, unfolding(crate::specs::Copies::up_octets))]
 pub fn spelled_up<'a>(event: &'a Event, outcome: &Outcome) -> Option<Spelled<'a>>
     ensures { result ≡ up_octets event.now outcome.now }

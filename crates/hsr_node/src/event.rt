@@ -134,6 +134,8 @@ pub enum StepFault {
 
 impl Carried {
     /// An equal copy; `NoMemory` if allocation fails.
+    // Inline, since a call would pass the copy through memory.
+    #[inline(always)]
     pub fn copy(&self) -> Result<Carried, NoMemory>
         ensures { IfOk result (λ carried. carried ≡ self.now) }
     {
@@ -144,6 +146,8 @@ impl Carried {
 
 impl Event {
     /// An equal event; `NoMemory` if allocation fails.
+    // Inline, since a call would pass the event through memory.
+    #[inline(always)]
     pub fn copy(&self) -> Result<Event, NoMemory>
         ensures { IfOk result (λ event. event ≡ self.now) }
     {

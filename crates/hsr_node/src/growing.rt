@@ -6,6 +6,22 @@ use hsr_frame::NoMemory;
 /// The least room that a list gets, in entries.
 const FIRST_ROOM: usize = 32;
 
+/// How many entries a long list has at least.
+const LONG_LIST: usize = 1024;
+
+/// How many entries more a list of this length gets room for.
+fn growth_of(len: usize) -> usize
+    ensures { 1 ≤ result }
+{
+    if len < LONG_LIST {
+        // Four times as much: a list that is moved as it grows is copied half as often so.
+        len.saturating_mul(3).max(FIRST_ROOM)
+    } else {
+        // Twice as much, since a long list leaves a gap where it was, which the lists that grow beside it don't fill.
+        len
+    }
+}
+
 /// Makes room for one more at the end of a list that only grows, as a record or the rows of a link. `NoMemory` if allocation fails; the
 /// list itself stays as it is.
 pub fn make_room<T>(list: &mut Vec<T>) -> Result<(), NoMemory>
@@ -16,9 +32,6 @@ pub fn make_room<T>(list: &mut Vec<T>) -> Result<(), NoMemory>
     if list.len() < list.capacity() {
         return Ok(());
     }
-    // Four times as much and not twice: a list that is moved as it grows is copied half as often so, and room that stays unused takes
-    // no memory of the machine before it is written.
-    let more = list.len().saturating_mul(3).max(FIRST_ROOM);
-    list.reserve(more)?;
+    list.reserve(growth_of(list.len()))?;
     Ok(())
 }

@@ -111,6 +111,8 @@ impl<const C: usize> Kept<C> {
     /// moment and the event as they are given, and what the machine answers that remembers, of its whole record, the
     /// youngest unexpired passed frames up to `C`. The receipt is that entry, and names its place. A refusal hands the
     /// event back and changes nothing: `NoMemory`, or what that machine refuses it for.
+    // Inline, since a call would pass the event through memory.
+    #[inline(always)]
     pub fn step(
         &mut self,
         worker: u16,

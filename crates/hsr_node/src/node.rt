@@ -47,6 +47,8 @@ impl<const C: usize> Node<C> {
     /// Lets an event happen, as its kind of node does. `WrongEvent` exactly where the event doesn't fit the kind, its
     /// ports or its addresses: a QuadBox or Station has no supervision, a QuadBox sends nothing, a DANH's supervision
     /// names no address. A refusal changes nothing.
+    // Inline, since it is called once for each size of tables, and a call would pass the outcome through memory.
+    #[inline(always)]
     pub fn apply(&mut self, at: u64, event: &Event) -> Result<Outcome, StepFault>
         ensures { (result, self.new) ≡ node_step C self.old at event.now }
     {

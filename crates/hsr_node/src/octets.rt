@@ -119,6 +119,8 @@ impl Octets {
 
 impl Room {
     /// The same octets in room to share: in the same room, where it is such.
+    // Inline, since a call would pass the room through memory.
+    #[inline(always)]
     fn share(&self) -> Result<Room, AllocError>
         ensures { IfOk result (λ room. octets_in room ≡ octets_in self.now) }
     {
@@ -142,6 +144,8 @@ impl Clone for Octets {
 
     ghost is_clone = { λ a b. b ≡ a };
 
+    // Inline, since a call would pass the room through memory.
+    #[inline(always)]
     fn clone(&self) -> Result<Octets, AllocError> {
         let room = self.room.share()?;
         Ok(Octets { room })

@@ -146,6 +146,8 @@ fn sending_of<'a>(seq: Option<u16>, frame: Option<FrameView<'a>>) -> Option<Sent
 /// supervision frame (IEC 62439-3 clause 5.7). `None` where the event is an arrival or an ageing, where the outcome isn't
 /// that of such an event, and where there is no such frame: the place has no such address, or it is a group's, the type is
 /// that of a VLAN or HSR tag, or the payload has more than `MAX_PAYLOAD` octets. The payload stands in the event.
+// Inline, since a call would pass the frame through memory.
+#[inline(always)]
 pub fn sent_view<'a>(place: &Place, event: &'a Event, outcome: &Outcome) -> Option<SentView<'a>>
     ensures { result ≡ sent_by place.now event.now outcome.now }
 {

@@ -76,7 +76,7 @@ fn passage_by(tap: Tap, packet: &Packet<'_>) -> Result<Option<Passage>, LinesFau
             end,
             is_in: comes_by_lane(end, &copy_of(packet)),
         })),
-        Passing::Flags => passage_by_flag(end, packet.number, packet.way),
+        Passing::Flags => passage_by_flag(end, packet.number(), packet.way()),
     }
 }
 
@@ -87,7 +87,7 @@ pub(crate) fn passage_of(
 ) -> Result<Option<Passage>, LinesFault>
     ensures { result ≡ passage_of taps.now packet.now }
 {
-    match taps.get(packet.interface) {
+    match taps.get(packet.interface()) {
         Some(Some(tap)) => passage_by(*tap, packet),
         _ => Ok(None),
     }

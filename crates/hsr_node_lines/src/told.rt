@@ -226,8 +226,8 @@ fn filled(alloc: Global, packet: &Packet<'_>) -> Result<Vec<u8>, NoMemory>
     ensures { IfOk result (λ octets. octets.items ≡ filled packet.now) }
 {
     let mut octets = Vec::from_slice(alloc, packet.octets)?;
-    if octets.len() < packet.length {
-        octets.resize(packet.length, 0)?;
+    if octets.len() < packet.length() {
+        octets.resize(packet.length(), 0)?;
     }
     Ok(octets)
 }
@@ -294,7 +294,7 @@ pub(crate) fn passed(
     let Some(passage) = passage else {
         return Ok(told);
     };
-    let is_short = packet.length <= LONGEST_PACKET;
+    let is_short = packet.length() <= LONGEST_PACKET;
     if passage.is_in {
         if is_short {
             return came(alloc, told, at, passage.end, packet);

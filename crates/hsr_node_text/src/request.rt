@@ -68,6 +68,8 @@ fn port_in(place: &Place, word: &[u8]) -> Option<u8>
 }
 
 /// The number of the port whose letter words begin with, where the place has it, and the words behind it.
+// Inline, since a call would pass both words through memory.
+#[inline(always)]
 fn read_port<'a>(place: &Place, words: Option<&'a [u8]>) -> Option<(u8, Option<&'a [u8]>)>
     ensures { option_map (λ p. (p.0, option_map (λ s. s.now) p.1)) result ≡ port_at place.now (option_map (λ s. s.now) words.entry) }
 {

@@ -27,8 +27,8 @@ pub(crate) struct Pending {
     ready: Numbers,
 }
 
-/// A step that moves a copy, of which a drain does nothing else. It is a type of its own, since a `Step` may have a payload, and is
-/// five times as long.
+/// A step that moves a copy, of which a drain does nothing else. It is a type of its own, since a `Step` may have a payload, and so
+/// is longer.
 #[derive(Clone, Copy)]
 pub(crate) enum Move {
     Judge(End),

@@ -195,6 +195,8 @@ impl<const C: usize> Running<C> {
     }
 
     /// Lets an event happen at a node, which these links touch; a refusal hands it back.
+    // Inline, since a call would pass the event through memory.
+    #[inline(always)]
     fn enter_at(
         &mut self,
         links: &[usize],
@@ -279,6 +281,8 @@ impl<const C: usize> Running<C> {
     }
 
     /// Another hand where a port receives; the answer is what was in it.
+    // Inline, since a call would pass the copy through memory.
+    #[inline(always)]
     fn change_hand(&mut self, spot: Option<Spot>, hand: Option<Carried>) -> Option<Carried>
         ensures was { result ≡ hand_in self.old.spans (option_map spot_view spot) }
         ensures now { self.new ≡ in_hand hand self.old (option_map spot_view spot) }

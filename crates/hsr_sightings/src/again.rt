@@ -6,7 +6,7 @@ ghost use Rattle.hsr_sightings.specs.Keys.{carried_key};
 ghost use Rattle.hsr_sightings.specs.Read.{AreRead, TellsEach};
 
 use hsr_frame::NoMemory;
-use hsr_frame_groups::{Caught, FRAME_TIME};
+use hsr_frame_groups::{FRAME_TIME, Noted};
 use hsr_recent_table::{Keyed, Previous};
 use std::alloc::Global;
 
@@ -22,7 +22,7 @@ fn key_of(first: u32, direction: usize) -> u64
 }
 
 /// The moment of a copy, and its frame and its direction as one number.
-fn keyed(caught: &Caught<'_>, first: u32) -> Keyed
+fn keyed(caught: &Noted, first: u32) -> Keyed
     requires { caught.now.direction < 512 }
     ensures { result ≡ carried_keyed first caught.now }
 {
@@ -47,7 +47,7 @@ fn count_by(counts: &[u32], found: Option<u32>) -> u32
 }
 
 /// Of each copy, how often its direction carried its frame before: once more than the previous copy of both.
-fn counts_of(alloc: Global, copies: &[Caught<'_>], firsts: &[u32]) -> Result<Vec<u32>, NoMemory>
+fn counts_of(alloc: Global, copies: &[Noted], firsts: &[u32]) -> Result<Vec<u32>, NoMemory>
     requires { AreRead copies.now firsts.now }
     ensures { IfOk result (λ counts. TellsEach carried_before copies.now counts.items) }
 {
@@ -70,7 +70,7 @@ fn put_most(most: &mut Vec<u64>, direction: usize, count: u32)
 }
 
 /// Of each direction, the most copies of a frame.
-fn most_of(alloc: Global, copies: &[Caught<'_>], counts: &[u32]) -> Result<Vec<u64>, NoMemory>
+fn most_of(alloc: Global, copies: &[Noted], counts: &[u32]) -> Result<Vec<u64>, NoMemory>
     requires read { (firsts : List ℕ) × AreRead copies.now firsts }
     requires counts { TellsEach carried_before copies.now counts.now }
     ensures long { IfOk result (λ most. length most.items ≡ 512) }
@@ -105,7 +105,7 @@ pub struct Carried {
 }
 
 /// How often directions carried frames: of each copy as one octet, and of each of 512 directions the most.
-pub fn carried_of(alloc: Global, copies: &[Caught<'_>], firsts: &[u32]) -> Result<Carried, NoMemory>
+pub fn carried_of(alloc: Global, copies: &[Noted], firsts: &[u32]) -> Result<Carried, NoMemory>
     requires { AreRead copies.now firsts.now }
     ensures { IfOk result (IsCarried copies.now) }
 {

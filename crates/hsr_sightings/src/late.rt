@@ -11,18 +11,18 @@ ghost use Rattle.hsr_sightings.specs.Fields as the_sighting;
 use crate::ring::{FORGET_TIME, Ring};
 use crate::sighting::Sighting;
 use hsr_frame::NoMemory;
-use hsr_frame_groups::Caught;
+use hsr_frame_groups::Noted;
 use std::alloc::Global;
 
 /// Whether a copy comes so long after its frame's first copy at its point that nodes have forgotten it.
-pub fn is_late(seen: &Sighting, caught: &Caught<'_>) -> bool
+pub fn is_late(seen: &Sighting, caught: &Noted) -> bool
     ensures { result ≡ nat_le forget_time (caught.now.at - seen.now.at) }
 {
     caught.at().saturating_sub(seen.at()) >= FORGET_TIME
 }
 
 /// Whether a copy comes so long after the first copy of its sighting, which is told by its number.
-fn late_at(sightings: &[Sighting], number: u32, caught: &Caught<'_>) -> bool
+fn late_at(sightings: &[Sighting], number: u32, caught: &Noted) -> bool
     ensures { (seen : the_sighting.Sighting) → slice_get sightings.now number ≡ Some seen
         → result ≡ nat_le forget_time (caught.now.at - seen.at) }
 {
@@ -35,7 +35,7 @@ fn late_at(sightings: &[Sighting], number: u32, caught: &Caught<'_>) -> bool
 /// Of each copy, whether nodes have forgotten its frame.
 pub fn lates_of(
     alloc: Global,
-    copies: &[Caught<'_>],
+    copies: &[Noted],
     sightings: &[Sighting],
     of_copy: &[u32],
 ) -> Result<Vec<bool>, NoMemory>
@@ -85,7 +85,7 @@ fn count_at(counts: &[u64], point: usize) -> u64
 }
 
 /// Counts the copy at an index.
-fn put_copy(demand: &mut Demand, seen: &Sighting, caught: &Caught<'_>, i: usize)
+fn put_copy(demand: &mut Demand, seen: &Sighting, caught: &Noted, i: usize)
     ensures begun { demand.new.begun.items ≡ begun_with demand.old.begun.items seen.now i }
     ensures most { demand.new.most.items ≡ needed_with demand.old.begun.items demand.old.most.items seen.now caught.now.at i }
     ensures long { length demand.new.begun.items ≡ length demand.old.begun.items }
@@ -103,7 +103,7 @@ fn put_copy(demand: &mut Demand, seen: &Sighting, caught: &Caught<'_>, i: usize)
 pub fn needed_of(
     alloc: Global,
     ring: &Ring<'_>,
-    copies: &[Caught<'_>],
+    copies: &[Noted],
     sightings: &[Sighting],
     of_copy: &[u32],
     points: usize,
@@ -133,7 +133,7 @@ pub struct Crowd {
 }
 
 /// The moment of a copy, by its index.
-fn moment_at(copies: &[Caught<'_>], copy: u32) -> u64
+fn moment_at(copies: &[Noted], copy: u32) -> u64
     ensures { result ≡ moment_in (slice_get copies.now copy) }
 {
     match copies.get(copy as usize) {
@@ -143,7 +143,7 @@ fn moment_at(copies: &[Caught<'_>], copy: u32) -> u64
 }
 
 /// The first frame from an index on that began less than 400 ms before a moment, by its index; frames are told by their copies.
-fn recent_from(copies: &[Caught<'_>], things: &[u32], from: usize, at: u64) -> usize
+fn recent_from(copies: &[Noted], things: &[u32], from: usize, at: u64) -> usize
     requires { from ≤ length things.now }
     ensures { IsRecentFrom (map (begun_by copies.now) things.now) from at result }
 {
@@ -184,7 +184,7 @@ struct Crowding {
 /// Puts the copy at an index, if it begins a frame at the point.
 fn put_begun(
     crowding: &mut Crowding,
-    copies: &[Caught<'_>],
+    copies: &[Noted],
     i: u32,
     begins: bool,
 ) -> Result<(), NoMemory>
@@ -208,7 +208,7 @@ fn put_begun(
 /// Whether the copy at an index begins a frame at a point.
 fn begins_at(
     ring: &Ring<'_>,
-    copies: &[Caught<'_>],
+    copies: &[Noted],
     sightings: &[Sighting],
     of_copy: &[u32],
     point: usize,
@@ -226,7 +226,7 @@ fn begins_at(
 fn crowd_of(
     alloc: Global,
     ring: &Ring<'_>,
-    copies: &[Caught<'_>],
+    copies: &[Noted],
     sightings: &[Sighting],
     of_copy: &[u32],
     point: usize,
@@ -252,7 +252,7 @@ fn crowd_of(
 pub fn crowds_of(
     alloc: Global,
     ring: &Ring<'_>,
-    copies: &[Caught<'_>],
+    copies: &[Noted],
     sightings: &[Sighting],
     of_copy: &[u32],
     points: usize,

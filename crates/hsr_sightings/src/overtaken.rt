@@ -7,7 +7,7 @@ ghost use Rattle.hsr_sightings.specs.Read.{AreOvertaken, AreRead, TellsEach};
 
 use crate::ring::FORGET_TIME;
 use hsr_frame::NoMemory;
-use hsr_frame_groups::{Caught, FRAME_TIME};
+use hsr_frame_groups::{FRAME_TIME, Noted};
 use hsr_recent_table::{Keyed, Previous};
 use std::alloc::Global;
 
@@ -19,26 +19,25 @@ pub struct Overtaken {
 }
 
 /// The priority of a copy's VLAN tag.
-fn priority_of(caught: &Caught<'_>) -> u16
+fn priority_of(caught: &Noted) -> u16
     ensures same { result ≡ priority_of caught.now }
     ensures small { result < 8 }
 {
-    caught.copy().vlan.unwrap_or(0) / 8192
+    caught.vlan().unwrap_or(0) / 8192
 }
 
 /// A direction, a priority and a source, as one number.
-fn key_of(caught: &Caught<'_>) -> u64
+fn key_of(caught: &Noted) -> u64
     requires { caught.now.direction < 320 }
     ensures { result ≡ beside_key caught.now }
 {
-    let copy = caught.copy();
-    let [a, b, c, d, e, f] = copy.src.octets();
+    let [a, b, c, d, e, f] = caught.source().octets();
     let place = caught.direction() as u64 * 8 + u64::from(priority_of(caught));
     u64::from_be_bytes([a, b, c, d, e, f, 0, 0]) + place
 }
 
 /// The moment of a copy, and its direction, priority and source as one number.
-fn keyed(caught: &Caught<'_>) -> Keyed
+fn keyed(caught: &Noted) -> Keyed
     requires { caught.now.direction < 320 }
     ensures { result ≡ beside_keyed caught.now }
 {
@@ -56,15 +55,14 @@ fn is_behind(number: u16, top: u16) -> bool
 }
 
 /// Whether a copy is behind the greatest so far, less than 400 ms after that.
-fn is_passed(top: &Caught<'_>, caught: &Caught<'_>) -> bool
+fn is_passed(top: &Noted, caught: &Noted) -> bool
     ensures { result ≡ is_passed (Some top.now) caught.now }
 {
-    is_behind(caught.copy().seq, top.copy().seq)
-        && caught.at().saturating_sub(top.at()) < FORGET_TIME
+    is_behind(caught.seq(), top.seq()) && caught.at().saturating_sub(top.at()) < FORGET_TIME
 }
 
 /// The same of the copy at an index, where the greatest so far is told by its index.
-fn is_passed_at(copies: &[Caught<'_>], top: Option<u32>, i: usize) -> bool
+fn is_passed_at(copies: &[Noted], top: Option<u32>, i: usize) -> bool
     requires { i < length copies.now }
     ensures { result ≡ is_passed_at copies.now top i }
 {
@@ -88,7 +86,7 @@ fn top_by(tops: &[Option<u32>], found: Option<u32>) -> Option<u32>
 }
 
 /// The greatest so far, with the copy at an index.
-fn top_after(copies: &[Caught<'_>], carried: u8, top: Option<u32>, i: u32) -> Option<u32>
+fn top_after(copies: &[Noted], carried: u8, top: Option<u32>, i: u32) -> Option<u32>
     requires { i < length copies.now }
     ensures { result ≡ top_after copies.now carried top i }
 {
@@ -100,7 +98,7 @@ fn top_after(copies: &[Caught<'_>], carried: u8, top: Option<u32>, i: u32) -> Op
 }
 
 /// What is told of the copy at an index, if it was overtaken.
-fn overtaken_in(copies: &[Caught<'_>], carried: u8, top: Option<u32>, i: u32) -> Option<Overtaken>
+fn overtaken_in(copies: &[Noted], carried: u8, top: Option<u32>, i: u32) -> Option<Overtaken>
     requires { i < length copies.now }
     ensures { result ≡ overtaken_in copies.now carried top i }
 {
@@ -113,7 +111,7 @@ fn overtaken_in(copies: &[Caught<'_>], carried: u8, top: Option<u32>, i: u32) ->
     if carried == 0 && is_passed(top, &copies[i as usize]) {
         Some(Overtaken {
             copy: i,
-            behind: top.copy().seq,
+            behind: top.seq(),
         })
     } else {
         None
@@ -134,7 +132,7 @@ fn put_overtaken(overtaken: &mut Vec<Overtaken>, own: Option<Overtaken>) -> Resu
 /// source and priority, less than 400 ms after that.
 pub fn overtaken_of(
     alloc: Global,
-    copies: &[Caught<'_>],
+    copies: &[Noted],
     firsts: &[u32],
     carried: &[u8],
 ) -> Result<Vec<Overtaken>, NoMemory>

@@ -1,8 +1,8 @@
 //! The times of a capture, and the point and the way of each direction.
-ghost use Rattle.std.specs.Prelude.{◌≡◌};
+ghost use Rattle.std.specs.Prelude.{◌≡◌, slice_index};
 ghost use Rattle.hsr_sightings.specs.Ring.{point_of, way_of};
 
-use hsr_frame_groups::Caught;
+use hsr_frame_groups::Noted;
 use std::marker::Model;
 
 /// How long a node remembers a frame, in nanoseconds.
@@ -33,16 +33,23 @@ impl<'a> Model for Ring<'a> {
 
 impl Ring<'_> {
     /// The point of a copy.
-    pub fn point_of(&self, caught: &Caught<'_>) -> usize
+    pub fn point_of(&self, caught: &Noted) -> usize
         ensures { result ≡ point_of self.now caught.now }
     {
         self.points.get(caught.direction()).copied().unwrap_or(0)
     }
 
+    /// The way of a direction.
+    pub fn way_at(&self, direction: usize) -> u8
+        ensures { result ≡ slice_index self.now.ways direction }
+    {
+        self.ways.get(direction).copied().unwrap_or(0)
+    }
+
     /// The way of a copy.
-    pub fn way_of(&self, caught: &Caught<'_>) -> u8
+    pub fn way_of(&self, caught: &Noted) -> u8
         ensures { result ≡ way_of self.now caught.now }
     {
-        self.ways.get(caught.direction()).copied().unwrap_or(0)
+        self.way_at(caught.direction())
     }
 }

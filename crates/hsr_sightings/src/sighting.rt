@@ -9,7 +9,7 @@ ghost use Rattle.hsr_sightings.specs.Fields.{Sighting};
 
 use crate::ring::{FORGET_TIME, Ring};
 use hsr_frame::NoMemory;
-use hsr_frame_groups::{Caught, FRAME_TIME};
+use hsr_frame_groups::{FRAME_TIME, Noted};
 use hsr_recent_table::{Keyed, Previous};
 use std::alloc::Global;
 use std::marker::Model;
@@ -225,7 +225,7 @@ fn key_of(first: u32, point: usize) -> u64
 }
 
 /// The moment of a copy, and its frame and its point as one number.
-fn keyed(ring: &Ring<'_>, caught: &Caught<'_>, first: u32) -> Keyed
+fn keyed(ring: &Ring<'_>, caught: &Noted, first: u32) -> Keyed
     requires { HasPlaces ring.now }
     ensures { result ≡ sighting_keyed ring.now first caught.now }
 {
@@ -236,7 +236,7 @@ fn keyed(ring: &Ring<'_>, caught: &Caught<'_>, first: u32) -> Keyed
 }
 
 /// A sighting that begins with a copy, by how often its direction carried its frame before.
-fn begun(ring: &Ring<'_>, caught: &Caught<'_>, carried: u8, i: u32, order: u32) -> Sighting
+fn begun(ring: &Ring<'_>, caught: &Noted, carried: u8, i: u32, order: u32) -> Sighting
     requires point { point_of ring.now caught.now < 64 }
     requires way { way_of ring.now caught.now < 2 }
     ensures { result ≡ joined ring.now caught.now carried (begun caught.now i (point_of ring.now caught.now) order) }
@@ -254,7 +254,7 @@ fn begun(ring: &Ring<'_>, caught: &Caught<'_>, carried: u8, i: u32, order: u32) 
 }
 
 /// A sighting with a copy, by how often its direction carried its frame before.
-fn joined(ring: &Ring<'_>, caught: &Caught<'_>, carried: u8, seen: &Sighting) -> Sighting
+fn joined(ring: &Ring<'_>, caught: &Noted, carried: u8, seen: &Sighting) -> Sighting
     requires way { way_of ring.now caught.now < 2 }
     requires soon { IsSoonAfter seen.now caught.now.at }
     ensures { result ≡ joined ring.now caught.now carried seen.now }
@@ -287,7 +287,7 @@ fn next_at(begun: &mut Vec<u32>, point: usize) -> u32
 fn put_begun(
     found: &mut Found,
     ring: &Ring<'_>,
-    caught: &Caught<'_>,
+    caught: &Noted,
     i: u32,
     carried: u8,
 ) -> Result<(), NoMemory>
@@ -311,14 +311,7 @@ fn put_begun(
 }
 
 /// Puts the copy at an index into the sighting with a number.
-fn put_joined(
-    found: &mut Found,
-    ring: &Ring<'_>,
-    caught: &Caught<'_>,
-    i: u32,
-    number: u32,
-    carried: u8,
-)
+fn put_joined(found: &mut Found, ring: &Ring<'_>, caught: &Noted, i: u32, number: u32, carried: u8)
     requires number { number < length found.old.all.items }
     requires room { i < length found.old.of_copy.items }
     requires way { way_of ring.now caught.now < 2 }
@@ -338,7 +331,7 @@ fn put_joined(
 fn put_copy(
     found: &mut Found,
     ring: &Ring<'_>,
-    copies: &[Caught<'_>],
+    copies: &[Noted],
     carried: &[u8],
     previous: Option<u32>,
     i: usize,
@@ -369,7 +362,7 @@ fn put_copy(
 pub fn sightings_of(
     alloc: Global,
     ring: &Ring<'_>,
-    copies: &[Caught<'_>],
+    copies: &[Noted],
     firsts: Vec<u32>,
     carried: &[u8],
 ) -> Result<Sightings, NoMemory>

@@ -70,6 +70,8 @@ impl<'a> Payload<'a> {
     }
 
     /// The same octets; those that stand elsewhere are not copied.
+    // Inline, since a call would pass the frame through memory.
+    #[inline(always)]
     pub fn copy(&self) -> Payload<'a>
         ensures { result ≡ self.now }
     {
@@ -81,6 +83,8 @@ impl<'a> Payload<'a> {
 
     /// The octets behind the head of a frame; those that stand elsewhere are not copied. The head has 24 octets at most, the
     /// payload `MAX_PAYLOAD`.
+    // Inline, since a call would pass the pieces through memory.
+    #[inline(always)]
     pub fn behind(&self, head: ArrayVec<u8, HEAD_ROOM>) -> Spelled<'a>
         requires head { array_vec_len head ≤ longest_head }
         requires payload { length self.now ≤ max_payload }

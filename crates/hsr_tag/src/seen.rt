@@ -82,6 +82,8 @@ fn read_seen(octets: &[u8]) -> Result<SeenView<'_>, FrameFault>
 /// The frame that the octets spell, with its payload where it stands, or the first of the faults: too short, too long, from
 /// a group, with two VLAN tags; then an HSR tag that is too short, an HSR tag or VLAN tag behind it, a plain frame that is
 /// too long (IEC 62439-3 clause 5.6).
+// Inline, since a call would pass the frame through memory.
+#[inline(always)]
 pub fn look_at(octets: &[u8]) -> Result<SeenView<'_>, FrameFault>
     ensures exact { result ≡ classified octets.now }
     // What is read is spelled so.

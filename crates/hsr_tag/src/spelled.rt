@@ -32,6 +32,8 @@ impl<'a> Model for Spelled<'a> {
 
 impl<'a> Spelled<'a> {
     /// These octets in front, and those that stand elsewhere: `MAX_FRAME` at most.
+    // Inline, since a call would pass the pieces through memory.
+    #[inline(always)]
     pub fn joined(head: ArrayVec<u8, HEAD_ROOM>, rest: &'a [u8]) -> Spelled<'a>
         requires { array_vec_len head + length rest.now ≤ max_frame }
         ensures { result ≡ head.items ++ rest.now }

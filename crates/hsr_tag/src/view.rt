@@ -89,6 +89,8 @@ impl<'a> Model for SeenView<'a> {
 
 impl<'a> FrameView<'a> {
     /// The frame with a tag of this path, below 16, and number.
+    // Inline, since a call would pass the frame through memory.
+    #[inline(always)]
     pub fn tag(&self, path: u8, seq: u16) -> TaggedView<'a>
         requires { path < 16 }
         ensures { result ≡ tag_of self.now path seq }
@@ -120,6 +122,8 @@ impl<'a> FrameView<'a> {
     }
 
     /// The octets of the frame; a payload that stands elsewhere is not copied.
+    // Inline, since a call would pass the pieces through memory.
+    #[inline(always)]
     pub fn spell(&self) -> Spelled<'a>
         ensures octets { result ≡ spelling self.now }
         ensures well_formed { IsPlain self.now }
@@ -133,6 +137,8 @@ impl<'a> FrameView<'a> {
 
 impl<'a> TaggedView<'a> {
     /// The frame without its tag.
+    // Inline, since a call would pass the frame through memory.
+    #[inline(always)]
     pub fn untag(&self) -> FrameView<'a>
         ensures { result ≡ untag_of self.now }
     {
@@ -162,6 +168,8 @@ impl<'a> TaggedView<'a> {
     }
 
     /// The octets of the frame; a payload that stands elsewhere is not copied.
+    // Inline, since a call would pass the pieces through memory.
+    #[inline(always)]
     pub fn spell(&self) -> Spelled<'a>
         ensures octets { result ≡ tagged_spelling self.now }
         ensures well_formed { IsTagged self.now }

@@ -10,17 +10,19 @@ use Rattle.hsr_capture_reader.specs.declared.fault.ReadFault.TheVariants as read
 use Rattle.hsr_expected.specs.Expected.{expected_in}
 use Rattle.hsr_expected.specs.declared.expected.ExpectedFault.{ExpectedFault}
 use Rattle.hsr_expected.specs.declared.expected.ExpectedFault.TheVariants as expected
-use Rattle.hsr_health.specs.Whole.{HasTooMany, IsFaultOf, IsHealth}
+use Rattle.hsr_health.specs.Whole.{IsBounded, IsFaultOf, IsGathered, IsHealth}
+use Rattle.hsr_health.specs.declared.gathered.Gathered.{Gathered}
 use Rattle.hsr_health.specs.declared.health.Health.{Health}
 use Rattle.hsr_health.specs.declared.health.HealthFault.{HealthFault}
 use Rattle.hsr_health.specs.declared.health.HealthFault.TheVariants as health
 use Rattle.hsr_health_text.specs.Report.{report_text}
 use Rattle.hsr_text.specs.Whole.{IsWhole}
-use Rattle.hsr_tap.specs.Examining.{Examines, IsExamined, IsLacking, IsOfCapture, IsSeen, IsUnexpected, IsUnseen, IsUntellable, Shows, ShowsOf, TellsEnded, expected_by, missing_of, numbers_of}
+use Rattle.hsr_tap.specs.Examining.{Examines, IsExamined, IsFound, IsGatheredOf, IsLacking, IsSeen, IsUnexpected, IsUnseen, IsUntellable, Shows, ShowsOf, TellsEnded, expected_by, missing_of, numbers_of}
 use Rattle.hsr_tap.specs.Fault.{expected_fault, health_fault, read_fault}
 use Rattle.hsr_tap.specs.Tapping.{IsNoInput}
 use Rattle.hsr_tap.specs.declared.examining.Ended.{Ended}
 use Rattle.hsr_tap.specs.declared.examining.Ended.TheVariants as ended
+use Rattle.hsr_tap.specs.declared.examining.Found.TheVariants as found
 use Rattle.hsr_tap.specs.declared.examining.Looking.{Looking}
 use Rattle.hsr_tap.specs.declared.examining.Seen.{Seen}
 use Rattle.hsr_tap.specs.declared.examining.Seen.TheVariants as seen
@@ -33,37 +35,53 @@ pub no_capture : (looking : Looking) (octets : List ℕ) (e : ReadFault) → Fai
 no_capture looking octets (read.Refused refusal) h = h
 no_capture looking octets read.NoMemory h = tt
 
-pub is_of_capture : (looking : Looking) (macs : List (List ℕ)) (capture : CaptureFields) (ring : Health) (text : List ℕ) (healthy : Bool) → IsHealth capture looking.asked macs ring
+pub is_lacking : (looking : Looking) (octets : List ℕ) (capture : CaptureFields) (number : ℕ) → capture_of looking.fcs octets ≡ Ok capture
+    → Some number ≡ missing_of (numbers_of looking.asked.choice) (length capture.interfaces) → IsFound looking octets (found.NoInterface number)
+is_lacking looking octets capture number is missing = record { capture = capture; is_capture = is; is_missing = sym missing }
+
+pub is_gathered : (looking : Looking) (octets : List ℕ) (capture : CaptureFields) (gathered : Gathered) → capture_of looking.fcs octets ≡ Ok capture
+    → None ≡ missing_of (numbers_of looking.asked.choice) (length capture.interfaces) → IsBounded capture → IsGathered capture looking.asked gathered → IsFound looking octets (found.Gathered gathered)
+is_gathered looking octets capture gathered is there bounded of = record {
+  capture = capture;
+  is_capture = is;
+  is_there = sym there;
+  is_bounded = bounded;
+  is_gathered = of;
+}
+
+pub is_examined : (looking : Looking) (macs : List (List ℕ)) (gathered : Gathered) (ring : Health) (text : List ℕ) (healthy : Bool)
+    → ((capture : CaptureFields) → IsGathered capture looking.asked gathered → IsHealth capture looking.asked macs ring)
     → text ≡ report_text ring looking.asked.choice.interfaces looking.asked.table looking.is_full → healthy ≡ (length ring.reasons.items == 0)
-    → IsOfCapture looking macs capture text healthy
-is_of_capture looking macs capture ring text healthy is same well = record { health = ring; is_health = is; is_text = same; is_healthy = well }
+    → (octets : List ℕ) → IsGatheredOf looking octets gathered → IsExamined looking macs octets text healthy
+is_examined looking macs gathered ring text healthy is same well octets of = record {
+  capture = of.capture;
+  is_capture = of.is_capture;
+  is_there = of.is_there;
+  is_of = record { health = ring; is_health = is of.capture of.is_gathered; is_text = same; is_healthy = well };
+}
 
-pub untellable : (looking : Looking) (capture : CaptureFields) (e : HealthFault) → IsFaultOf capture looking.asked e → IsUntellable looking capture (health_fault e)
-untellable looking capture health.Sources h = h
-untellable looking capture health.Memory h = tt
+pub untellable : (looking : Looking) (gathered : Gathered) (e : HealthFault) → ((capture : CaptureFields) → IsGathered capture looking.asked gathered → IsFaultOf capture looking.asked e)
+    → IsUntellable looking gathered (health_fault e)
+untellable looking gathered health.Sources is = is
+untellable looking gathered health.Memory is = tt
 
-pub is_lacking : (looking : Looking) (macs : List (List ℕ)) (octets : List ℕ) (capture : CaptureFields) (number : ℕ) → capture_of looking.fcs octets ≡ Ok capture
-    → Some number ≡ missing_of (numbers_of looking.asked.choice) (length capture.interfaces) → IsSeen looking macs octets (seen.NoInterface number)
-is_lacking looking macs octets capture number is missing = record { capture = capture; is_capture = is; is_missing = sym missing }
+pub unseen : (looking : Looking) (octets : List ℕ) (gathered : Gathered) (e : Fault) → IsFound looking octets (found.Gathered gathered) → IsUntellable looking gathered e → IsUnseen looking octets e
+unseen looking octets gathered fault.Sources of h = (of.capture, of.is_capture, h of.capture of.is_gathered)
+unseen looking octets gathered fault.Memory of h = tt
+unseen looking octets gathered fault.Read of h = absurd h
+unseen looking octets gathered (fault.Capture e) of h = absurd h
+unseen looking octets gathered fault.NoDevice of h = absurd h
+unseen looking octets gathered (fault.Device e) of h = absurd h
+unseen looking octets gathered (fault.Lines e) of h = absurd h
+unseen looking octets gathered (fault.Stimuli e) of h = absurd h
+unseen looking octets gathered (fault.Judge e) of h = absurd h
+unseen looking octets gathered fault.NoPlanFile of h = absurd h
+unseen looking octets gathered fault.NoPlan of h = absurd h
+unseen looking octets gathered fault.Write of h = absurd h
 
-pub is_examined : (looking : Looking) (macs : List (List ℕ)) (octets : List ℕ) (capture : CaptureFields) (report : Report) → capture_of looking.fcs octets ≡ Ok capture
-    → None ≡ missing_of (numbers_of looking.asked.choice) (length capture.interfaces) → IsOfCapture looking macs capture report.text.items report.is_well
-    → IsSeen looking macs octets (seen.Told report)
-is_examined looking macs octets capture report is there of = record { capture = capture; is_capture = is; is_there = sym there; is_of = of }
-
-pub unseen : (looking : Looking) (octets : List ℕ) (capture : CaptureFields) (e : Fault) → capture_of looking.fcs octets ≡ Ok capture → IsUntellable looking capture e → IsUnseen looking octets e
-unseen looking octets capture fault.Sources is h = (capture, is, h)
-unseen looking octets capture fault.Memory is h = tt
-unseen looking octets capture fault.Read is h = absurd h
-unseen looking octets capture (fault.Capture e) is h = absurd h
-unseen looking octets capture fault.NoDevice is h = absurd h
-unseen looking octets capture (fault.Device e) is h = absurd h
-unseen looking octets capture (fault.Lines e) is h = absurd h
-unseen looking octets capture (fault.Stimuli e) is h = absurd h
-unseen looking octets capture (fault.Judge e) is h = absurd h
-unseen looking octets capture fault.NoPlanFile is h = absurd h
-unseen looking octets capture fault.NoPlan is h = absurd h
-unseen looking octets capture fault.Write is h = absurd h
+pub is_seen : (looking : Looking) (macs : List (List ℕ)) (octets : List ℕ) (gathered : Gathered) (report : Report) → IsFound looking octets (found.Gathered gathered)
+    → ((octets : List ℕ) → IsGatheredOf looking octets gathered → IsExamined looking macs octets report.text.items report.is_well) → IsSeen looking macs octets (seen.Told report)
+is_seen looking macs octets gathered report of is = is octets of
 
 pub no_plan : (plan : List ℕ) (e : ExpectedFault) → (e ≡ expected.NoPlan → IsUtf8 plan → expected_in plan ≡ None) → IsUnexpected (Some plan) (expected_fault e)
 no_plan plan expected.NoPlan h = h refl

@@ -10,8 +10,9 @@ use Rattle.std.specs.Str.{IsUtf8}
 use Rattle.hsr_capture_reader.specs.Capture.{CaptureFields, capture_of}
 use Rattle.hsr_capture_reader.specs.declared.fault.Refusal.{Refusal}
 use Rattle.hsr_expected.specs.Expected.{expected_in}
-use Rattle.hsr_health.specs.Whole.{HasTooMany, IsHealth}
+use Rattle.hsr_health.specs.Whole.{HasTooMany, IsBounded, IsGathered, IsHealth}
 use Rattle.hsr_health.specs.declared.asked.Asked.{Asked}
+use Rattle.hsr_health.specs.declared.gathered.Gathered.{Gathered}
 use Rattle.hsr_health.specs.declared.health.Health.{Health}
 use Rattle.hsr_health_text.specs.Report.{report_text}
 use Rattle.hsr_taps.specs.Asked.{ChoiceFields, PointFields}
@@ -19,6 +20,8 @@ use Rattle.hsr_tap.specs.Ends.{Tells}
 use Rattle.hsr_tap.specs.Reporting.{status_of}
 use Rattle.hsr_tap.specs.declared.examining.Ended.{Ended}
 use Rattle.hsr_tap.specs.declared.examining.Ended.TheVariants as ended
+use Rattle.hsr_tap.specs.declared.examining.Found.{Found}
+use Rattle.hsr_tap.specs.declared.examining.Found.TheVariants as found
 use Rattle.hsr_tap.specs.declared.examining.Looking.{Looking}
 use Rattle.hsr_tap.specs.declared.examining.Seen.{Seen}
 use Rattle.hsr_tap.specs.declared.examining.Seen.TheVariants as seen
@@ -66,11 +69,23 @@ pub record IsLacking (looking : Looking) (octets : List ℕ) (number : ℕ) : Ty
   pub is_capture : capture_of looking.fcs octets ≡ Ok capture
   pub is_missing : missing_of (numbers_of looking.asked.choice) (length capture.interfaces) ≡ Some number
 
--- a capture has too many sources; room may be refused
-abbrev pub IsUntellable : Looking → CaptureFields → Fault → Type 0
-IsUntellable looking capture Sources = HasTooMany capture looking.asked
-IsUntellable looking capture Memory = ⊤
-IsUntellable looking capture fault = ⊥
+-- octets are a capture that has all interfaces that are named, and this is gathered of it
+pub record IsGatheredOf (looking : Looking) (octets : List ℕ) (gathered : Gathered) : Type 0 where
+  pub capture : CaptureFields
+  pub is_capture : capture_of looking.fcs octets ≡ Ok capture
+  pub is_there : missing_of (numbers_of looking.asked.choice) (length capture.interfaces) ≡ None
+  pub is_bounded : IsBounded capture
+  pub is_gathered : IsGathered capture looking.asked gathered
+
+abbrev pub IsFound : Looking → List ℕ → Found → Type 0
+IsFound looking octets (found.Gathered gathered) = IsGatheredOf looking octets gathered
+IsFound looking octets (found.NoInterface number) = IsLacking looking octets number
+
+-- each capture that this was gathered of has too many sources; room may be refused
+abbrev pub IsUntellable : Looking → Gathered → Fault → Type 0
+IsUntellable looking gathered Sources = (capture : CaptureFields) → IsGathered capture looking.asked gathered → HasTooMany capture looking.asked
+IsUntellable looking gathered Memory = ⊤
+IsUntellable looking gathered fault = ⊥
 
 -- what is seen of octets: a report, or that an interface is missing
 abbrev pub IsSeen : Looking → List (List ℕ) → List ℕ → Seen → Type 0

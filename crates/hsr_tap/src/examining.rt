@@ -1,9 +1,9 @@
 //! The report on the health of the ring that a capture shows, written; or a fault's line.
-ghost use Rattle.std.specs.Prelude.{◌≡◌, ◌==◌, ◌++◌, Some, None, Ok, Err, IfErr, IfOk, IfSome, OnOk, length, option_map};
+ghost use Rattle.std.specs.Prelude.{◌≡◌, ◌==◌, ◌++◌, ℕ, List, Some, None, Ok, Err, IfErr, IfOk, IfSome, OnOk, length, option_map};
 ghost use Rattle.std.specs.List.{flat_map};
 ghost use Rattle.hsr_capture_reader.specs.Capture.{capture_of};
 ghost use Rattle.hsr_health.specs.Whole.{IsBounded};
-ghost use Rattle.hsr_tap.specs.Examining.{Examines, IsOfCapture, IsSeen, IsUnexpected, IsUnseen, IsUntellable, Shows, ShowsOf, TellsEnded, expected_by, interfaces_of, missing_of, numbers_of};
+ghost use Rattle.hsr_tap.specs.Examining.{Examines, IsExamined, IsFound, IsGatheredOf, IsSeen, IsUnexpected, IsUnseen, IsUntellable, Shows, ShowsOf, TellsEnded, expected_by, interfaces_of, missing_of, numbers_of};
 ghost use Rattle.hsr_health_text.specs.Report.{report_text};
 ghost use Rattle.hsr_tap.specs.declared.examining.Ended.TheVariants.{NoInterface};
 
@@ -13,7 +13,7 @@ use crate::running::{octets_from, tell_fault};
 use hsr_capture_reader::Capture;
 use hsr_expected::expected_of;
 use hsr_frame::{Mac, NoMemory};
-use hsr_health::{Asked, Health, health_of};
+use hsr_health::{Asked, Gathered, Health, gathered_of, health_of};
 use hsr_health_text::report;
 use hsr_taps::{Choice, PointAsked};
 use std::alloc::Global;
@@ -82,18 +82,19 @@ fn missing_of(numbers: &[usize], many: usize) -> Option<usize>
     numbers.iter().copied().find(|number| *number >= many)
 }
 
-/// The capture that octets are.
+/// The capture that octets are, with the names of its interfaces apart.
 #[tactic(auto, using(crate::proofs::Examined::no_capture, crate::proofs::Bounded::is_bounded))]
-fn capture_of<'a>(
+fn capture_of<'n, 'a>(
     alloc: Global,
     looking: &Looking<'_>,
     octets: &'a mut Vec<u8>,
-) -> Result<Capture<'a>, Fault>
+    names: &'n mut Vec<u8>,
+) -> Result<Capture<'n, 'a>, Fault>
     ensures found { IfOk result (λ capture. capture_of looking.now.fcs octets.old.items ≡ Ok capture) }
     ensures bounded { IfOk result (λ capture. IsBounded capture) }
     ensures fault { IfErr result (λ fault. IsUnseen looking.now octets.old.items fault) }
 {
-    Ok(Capture::read(alloc, looking.fcs, octets)?)
+    Ok(Capture::read(alloc, looking.fcs, octets, names)?)
 }
 
 /// The report on a ring's health.
@@ -111,27 +112,11 @@ fn report_of(alloc: Global, looking: &Looking<'_>, health: &Health<'_>) -> Resul
     })
 }
 
-/// The report on the health of the ring that a capture shows, in which these sources are expected.
-#[tactic(auto, using(crate::proofs::Examined::is_of_capture, crate::proofs::Examined::untellable))]
-fn report_on(
-    alloc: Global,
-    looking: &Looking<'_>,
-    expected: &[Mac],
-    capture: Capture<'_>,
-) -> Result<Report, Fault>
-    requires { IsBounded capture }
-    ensures told { IfOk result (λ said. IsOfCapture looking.now expected.now capture.entry said.text.items said.is_well) }
-    ensures fault { IfErr result (λ fault. IsUntellable looking.now capture.entry fault) }
-{
-    let health = health_of(alloc, capture, &looking.asked, expected)?;
-    Ok(report_of(alloc, looking, &health)?)
-}
-
 /// The first interface that is named and that a capture doesn't have.
 fn lacking(
     alloc: Global,
     looking: &Looking<'_>,
-    capture: &Capture<'_>,
+    capture: &Capture<'_, '_>,
 ) -> Result<Option<usize>, NoMemory>
     ensures { IfOk result (λ missing. missing
         ≡ missing_of (numbers_of looking.now.asked.choice) (length capture.now.interfaces)) }
@@ -140,21 +125,65 @@ fn lacking(
     Ok(missing_of(numbers.as_slice(), capture.interfaces.len()))
 }
 
+/// What is gathered of a capture, or that an interface is named which isn't there.
+#[derive(Drop)]
+enum Found<'a> {
+    Gathered(Gathered<'a>),
+    NoInterface(usize),
+}
+
+/// What is gathered of the capture that octets are; the names of its interfaces stand apart. The octets go here, before most is told: they
+/// take more room than all that is told of them.
+#[tactic(auto, using(crate::proofs::Examined::is_lacking, crate::proofs::Examined::is_gathered))]
+fn gathered_in<'n>(
+    alloc: Global,
+    looking: &Looking<'n>,
+    octets: Vec<u8>,
+    names: &'n mut Vec<u8>,
+) -> Result<Found<'n>, Fault>
+    ensures found { IfOk result (λ found. IsFound looking.now octets.items found) }
+    ensures unseen { IfErr result (λ fault. IsUnseen looking.now octets.items fault) }
+{
+    let mut octets = octets;
+    let capture = capture_of(alloc, looking, &mut octets, names)?;
+    match lacking(alloc, looking, &capture)? {
+        Some(number) => Ok(Found::NoInterface(number)),
+        None => Ok(Found::Gathered(gathered_of(alloc, capture, &looking.asked)?)),
+    }
+}
+
+/// The report on the health of the ring that a capture shows, by what was gathered of it, in which these sources are expected.
+#[tactic(auto, using(crate::proofs::Examined::is_examined, crate::proofs::Examined::untellable))]
+fn report_on(
+    alloc: Global,
+    looking: &Looking<'_>,
+    expected: &[Mac],
+    gathered: Gathered<'_>,
+) -> Result<Report, Fault>
+    requires { (octets : List ℕ) × IsGatheredOf looking.now octets gathered }
+    ensures told { IfOk result (λ said. (octets : List ℕ) → IsGatheredOf looking.now octets gathered.entry
+        → IsExamined looking.now expected.now octets said.text.items said.is_well) }
+    ensures unseen { IfErr result (λ fault. IsUntellable looking.now gathered.entry fault) }
+{
+    let health = health_of(alloc, gathered, &looking.asked, expected)?;
+    Ok(report_of(alloc, looking, &health)?)
+}
+
 /// What is seen of the capture that octets are, in which these sources are expected.
-#[tactic(auto, using(crate::proofs::Examined::is_lacking, crate::proofs::Examined::is_examined, crate::proofs::Examined::unseen))]
+#[tactic(auto, using(crate::proofs::Examined::is_seen, crate::proofs::Examined::unseen))]
 fn seen_of(
     alloc: Global,
     looking: &Looking<'_>,
     expected: &[Mac],
-    octets: &mut Vec<u8>,
+    octets: Vec<u8>,
 ) -> Result<Seen, Fault>
-    ensures seen { IfOk result (λ seen. IsSeen looking.now expected.now octets.old.items seen) }
-    ensures unseen { IfErr result (λ fault. IsUnseen looking.now octets.old.items fault) }
+    ensures seen { IfOk result (λ seen. IsSeen looking.now expected.now octets.items seen) }
+    ensures unseen { IfErr result (λ fault. IsUnseen looking.now octets.items fault) }
 {
-    let capture = capture_of(alloc, looking, octets)?;
-    match lacking(alloc, looking, &capture)? {
-        Some(number) => Ok(Seen::NoInterface(number)),
-        None => Ok(Seen::Told(report_on(alloc, looking, expected, capture)?)),
+    let mut names = Vec::new(alloc);
+    match gathered_in(alloc, looking, octets, &mut names)? {
+        Found::Gathered(gathered) => Ok(Seen::Told(report_on(alloc, looking, expected, gathered)?)),
+        Found::NoInterface(number) => Ok(Seen::NoInterface(number)),
     }
 }
 
@@ -190,8 +219,8 @@ fn seen_from<R: Read>(
     ensures seen { IfOk result (λ seen. IfSome (R.remaining reader.old) (λ octets. IsSeen looking.now expected.now octets seen)) }
     ensures unseen { IfErr result (λ fault. IfSome (R.remaining reader.old) (λ octets. IsUnseen looking.now octets fault)) }
 {
-    let mut octets = octets_from(alloc, reader)?;
-    seen_of(alloc, looking, expected, &mut octets)
+    let octets = octets_from(alloc, reader)?;
+    seen_of(alloc, looking, expected, octets)
 }
 
 /// Writes what is seen of the capture that a reader gives, in which these sources are expected: all of it, or nothing. Gives how it ended.

@@ -28,7 +28,7 @@ fn report_by(
     alloc: Global,
     device: &Device,
     showing: Showing,
-    capture: Capture<'_>,
+    capture: Capture<'_, '_>,
 ) -> Result<Report, JudgeFault>
     ensures reported { IfOk result (λ report. HasReport device.now showing capture.entry report.text.items report.is_well) }
     ensures unreported { IfErr result (λ fault. IsUnreported device.now capture.entry fault) }
@@ -68,7 +68,8 @@ fn judged(
     ensures judged { IfOk result (λ report. IsJudged document.now showing fcs octets.old.items report.text.items report.is_well) }
     ensures unjudged { IfErr result (λ fault. IsUnjudged document.now fcs octets.old.items fault) }
 {
-    let capture = Capture::read(alloc, fcs, octets)?;
+    let mut names = Vec::new(alloc);
+    let capture = Capture::read(alloc, fcs, octets, &mut names)?;
     Ok(report_by(alloc, device, showing, capture)?)
 }
 

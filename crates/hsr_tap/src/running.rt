@@ -52,7 +52,7 @@ pub(crate) fn in_order<'a>(packets: Vec<Packet<'a>>) -> Result<Vec<Packet<'a>>, 
 fn lines_of_capture(
     alloc: Global,
     device: Option<&Device>,
-    capture: Capture<'_>,
+    capture: Capture<'_, '_>,
 ) -> Result<Lines, LinesFault>
     ensures told { IfOk result (λ lines.
         HasLines (option_map (λ d. d.now) device.entry) capture.entry (Ok lines)) }
@@ -70,18 +70,19 @@ fn lines_of_capture(
     lines_of(alloc, device, interfaces.as_slice(), packets.as_slice())
 }
 
-/// The capture that octets are.
+/// The capture that octets are, with the names of its interfaces apart.
 #[tactic(auto, using(crate::proofs::Untold::no_capture))]
-fn capture_of<'a>(
+fn capture_of<'n, 'a>(
     alloc: Global,
     device: Option<&Device>,
     fcs: u8,
     octets: &'a mut Vec<u8>,
-) -> Result<Capture<'a>, Fault>
+    names: &'n mut Vec<u8>,
+) -> Result<Capture<'n, 'a>, Fault>
     ensures found { IfOk result (λ capture. capture_of fcs octets.old.items ≡ Ok capture) }
     ensures fault { IfErr result (λ fault. Describes (option_map (λ d. d.now) device.entry) (λ document. IsUntold document fcs octets.old.items fault)) }
 {
-    Ok(Capture::read(alloc, fcs, octets)?)
+    Ok(Capture::read(alloc, fcs, octets, names)?)
 }
 
 /// The lines of the capture that octets are, for a device, if there is one.
@@ -95,7 +96,8 @@ fn lines_in(
     ensures told { IfOk result (λ lines. Describes (option_map (λ d. d.now) device.entry) (λ document. IsTold document fcs octets.old.items (Ok lines))) }
     ensures untold { IfErr result (λ fault. Describes (option_map (λ d. d.now) device.entry) (λ document. IsUntold document fcs octets.old.items fault)) }
 {
-    let capture = capture_of(alloc, device, fcs, octets)?;
+    let mut names = Vec::new(alloc);
+    let capture = capture_of(alloc, device, fcs, octets, &mut names)?;
     Ok(lines_of_capture(alloc, device, capture)?)
 }
 

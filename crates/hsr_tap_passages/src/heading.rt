@@ -63,7 +63,7 @@ pub(crate) fn heading_of(tap: Tap, packet: &Packet<'_>) -> Result<Heading, Passa
     match tap.passing {
         Passing::In => Ok(Heading::In),
         Passing::Out => Ok(Heading::Out),
-        Passing::Flags => by_flags(tap.end, packet.number, packet.way),
+        Passing::Flags => by_flags(tap.end, packet.number(), packet.way()),
         Passing::Lane => Ok(by_lane(tap.end, &copy_of(packet))),
     }
 }

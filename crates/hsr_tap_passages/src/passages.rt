@@ -77,7 +77,8 @@ fn count_at(times: &Times, start: u64, end: u64, packets: &[Packet<'_>], interfa
     packets
         .iter()
         .filter(|packet| {
-            packet.interface == interface && counts(times, end, packet.moment.saturating_sub(start))
+            packet.interface() == interface
+                && counts(times, end, packet.moment.saturating_sub(start))
         })
         .count() as u64
 }
@@ -106,7 +107,7 @@ fn kept_length(packet: &Packet<'_>) -> usize
     ensures { result ≡ kept_length packet.now }
 {
     let most = packet.octets.len().max(MAX_FRAME + 1);
-    packet.length.min(most).max(packet.octets.len())
+    packet.length().min(most).max(packet.octets.len())
 }
 
 /// The octets of a packet, with zeros for those that weren't captured. Of one that is longer than a frame so many that it is still longer.
@@ -133,7 +134,7 @@ fn passage_of(
         moment: packet.moment.saturating_sub(start),
         end: tap.end,
         heading,
-        packet: packet.number,
+        packet: packet.number(),
         octets,
         captured: packet.octets.len(),
     })
@@ -185,7 +186,7 @@ fn put_packet(
     if !counts(times, end, packet.moment.saturating_sub(start)) {
         return Ok(());
     }
-    let tap = tap_in(taps, packet.interface);
+    let tap = tap_in(taps, packet.interface());
     put_at(alloc, passages, tap, start, packet)
 }
 

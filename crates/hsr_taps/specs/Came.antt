@@ -117,20 +117,20 @@ HaveOwnNumbers copies = (i j : ℕ) (b c : CaughtFields) → slice_get copies i 
 
 -- ---- the whole
 
--- what came by the taps of a capture, where these interfaces are looked at
-pub record IsTapped (choice : ChoiceFields) (interfaces : List InterfaceFields) (packets : List PacketFields) (looked : List Bool) (tapped : Tapped) : Type 0 where
+-- what came by the taps of a capture, where these interfaces are looked at, and the copies among it
+pub record IsTapped (choice : ChoiceFields) (interfaces : List InterfaceFields) (packets : List PacketFields) (looked : List Bool) (tapped : Tapped) (copies : List CaughtFields) : Type 0 where
   pub looks : AreLookedAt choice interfaces looked
   pub long : length tapped.tallies.items ≡ length looked
   pub tallies : AreTalliesIf looked packets tapped.tallies.items
   pub taps : AreTaps choice.taps looked packets tapped.taps.items
   pub points : tapped.points.items ≡ names_from choice looked [] 0 interfaces
-  pub copies : tapped.copies.items ≡ copies_in looked tapped.taps.items packets
+  pub are_copies : copies ≡ copies_in looked tapped.taps.items packets
   pub strays : tapped.strays.items ≡ strays_in looked tapped.taps.items packets
   pub point_of : (owners : List (Option ℕ)) × AreOwners choice looked interfaces tapped.points.items owners × ArePointsOf owners tapped.point_of.items
-  pub way_of : AreWays tapped.copies.items tapped.way_of.items
-  pub carried : AreSums tapped.copies.items tapped.carried.items
-  pub time : AreInTime tapped.copies.items
-  pub few : length tapped.copies.items ≤ length packets
-  pub numbers : HaveOwnNumbers tapped.copies.items
-  pub directions : (i : ℕ) (c : CaughtFields) → slice_get tapped.copies.items i ≡ Some c → c.direction < 320
+  pub way_of : AreWays copies tapped.way_of.items
+  pub carried : AreSums copies tapped.carried.items
+  pub time : AreInTime copies
+  pub few : length copies ≤ length packets
+  pub numbers : HaveOwnNumbers copies
+  pub directions : (i : ℕ) (c : CaughtFields) → slice_get copies i ≡ Some c → c.direction < 320
   pub places : (direction point : ℕ) → slice_get tapped.point_of.items direction ≡ Some point → point < 64

@@ -19,4 +19,4 @@ pub use choice::{Choice, PointAsked, TapsAsked};
 pub use direction::{DIRECTIONS, Part, Taps, direction_of, interface_of, part_of};
 pub use points::{Point, Points, points_of};
 pub use tally::{Tally, looked_at, tallies_of};
-pub use tapping::{Stray, Tapped, tap};
+pub use tapping::{Came, Stray, Tapped, tap};

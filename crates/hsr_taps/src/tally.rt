@@ -88,10 +88,10 @@ impl Tally {
         let untagged = more(self.untagged, is_untagged(&kind));
         let malformed = more(self.malformed, is_malformed(&kind));
         let unread = more(self.unread, is_unread(&kind));
-        let cut = more(self.cut, packet.octets.len() < packet.length);
+        let cut = more(self.cut, packet.octets.len() < packet.length());
         let lane_a = more(self.lane_a, has_lane(&kind, 0));
         let lane_b = more(self.lane_b, has_lane(&kind, 1));
-        let flagged = more(self.flagged, packet.way.is_some());
+        let flagged = more(self.flagged, packet.way().is_some());
         Tally {
             packets,
             untagged,
@@ -163,8 +163,9 @@ fn count_at(tallies: &mut Vec<Tally>, packet: &Packet<'_>)
     ensures tallies { (looked : List Bool) (packets : List PacketFields) → length packets < 2 ^ 63 → is_at looked packet.now.interface ≡ true
         → AreTallies looked packets tallies.old.items → AreTallies looked (packets ++ packet.now ∷ []) tallies.new.items }
 {
-    if packet.interface < tallies.len() {
-        tallies[packet.interface] = tallies[packet.interface].with(packet);
+    let interface = packet.interface();
+    if interface < tallies.len() {
+        tallies[interface] = tallies[interface].with(packet);
     }
 }
 
@@ -174,7 +175,7 @@ fn count_packet(tallies: &mut Vec<Tally>, looked_at: &[bool], packet: &Packet<'_
     ensures tallies { (packets : List PacketFields) → length packets < 2 ^ 63 → AreTallies looked_at.now packets tallies.old.items
         → AreTallies looked_at.now (packets ++ packet.now ∷ []) tallies.new.items }
 {
-    if is_at(looked_at, packet.interface) {
+    if is_at(looked_at, packet.interface()) {
         count_at(tallies, packet);
     }
 }

@@ -32,9 +32,7 @@ pub struct Tapped<'a> {
     /// How the directions of each interface are told apart.
     pub taps: Vec<Taps>,
     pub points: Vec<Point<'a>>,
-    /// The copies of tagged frames, in the order of time.
-    pub copies: Vec<Caught<'a>>,
-    /// All other packets.
+    /// The packets that are no copies of tagged frames.
     pub strays: Vec<Stray>,
     /// Of each direction, the point that it belongs to.
     pub point_of: Vec<usize>,
@@ -42,6 +40,13 @@ pub struct Tapped<'a> {
     pub way_of: Vec<u8>,
     /// Of each direction, how many copies came by it.
     pub carried: Vec<u64>,
+}
+
+/// What came by the taps of a capture, and the copies of tagged frames, in the order of time.
+#[derive(Drop)]
+pub struct Came<'n, 'a> {
+    pub tapped: Tapped<'n>,
+    pub copies: Vec<Caught<'a>>,
 }
 
 /// How the directions of each interface are told apart.
@@ -60,8 +65,8 @@ fn taps_of(alloc: Global, asked: TapsAsked, tallies: &[Tally]) -> Result<Vec<Tap
 fn taps_at(looked_at: &[bool], taps: &[Taps], packet: &Packet<'_>) -> Option<Taps>
     ensures { result ≡ taps_at looked_at.now taps.now packet.now }
 {
-    if is_at(looked_at, packet.interface) {
-        taps.get(packet.interface).copied()
+    if is_at(looked_at, packet.interface()) {
+        taps.get(packet.interface()).copied()
     } else {
         None
     }
@@ -90,15 +95,15 @@ fn put_packet<'a>(
     match copy_of(packet) {
         Ok(copy) => sorted.copies.push(Caught::new(
             packet.moment,
-            packet.number,
-            direction_of(packet.interface, taps, packet.way, copy.path),
+            packet.number(),
+            direction_of(packet.interface(), taps, packet.way(), copy.path),
             packet.octets,
             size_of(packet),
         ))?,
         Err(what) => sorted.strays.push(Stray {
             at: packet.moment,
-            packet: packet.number,
-            interface: packet.interface,
+            packet: packet.number(),
+            interface: packet.interface(),
             what,
         })?,
     }
@@ -262,17 +267,17 @@ fn tallies_if(
 }
 
 /// What came by the taps of a capture, whose packets are in the order of time; they go. `NoMemory` where room is refused.
-pub fn tap<'a>(
+pub fn tap<'n, 'a>(
     alloc: Global,
-    interfaces: &[Interface<'a>],
+    interfaces: &[Interface<'n>],
     packets: Vec<Packet<'a>>,
-    choice: &Choice<'a>,
-) -> Result<Tapped<'a>, NoMemory>
+    choice: &Choice<'n>,
+) -> Result<Came<'n, 'a>, NoMemory>
     requires interfaces { length interfaces.now ≤ 64 }
     requires packets { length packets.items < 2 ^ 32 }
     requires numbers { ArePackets packets.items }
     requires time { AreInOrder packets.items }
-    ensures { IfOk result (λ tapped. (looked : List Bool) × IsTapped choice.now interfaces.now packets.entry.items looked tapped) }
+    ensures { IfOk result (λ came. (looked : List Bool) × IsTapped choice.now interfaces.now packets.entry.items looked came.tapped came.copies.items) }
 {
     let looked = looked_at(alloc, interfaces, choice)?;
     let looked_at = looked.as_slice();
@@ -292,14 +297,16 @@ pub fn tap<'a>(
     let point_of = points_by_direction(alloc, owners)?;
     let way_of = ways_of(alloc, lane_a, lane_b)?;
     let carried = sums_of(alloc, lane_a, lane_b)?;
-    Ok(Tapped {
-        tallies: told,
-        taps,
-        points: named.points,
+    Ok(Came {
+        tapped: Tapped {
+            tallies: told,
+            taps,
+            points: named.points,
+            strays: sorted.strays,
+            point_of,
+            way_of,
+            carried,
+        },
         copies: sorted.copies,
-        strays: sorted.strays,
-        point_of,
-        way_of,
-        carried,
     })
 }

@@ -16,6 +16,8 @@ fn cut_near(text: &[u8]) -> (&[u8], Option<&[u8]>)
 }
 
 /// The next word of what is left of a line, and what follows the one space behind it: what `word` gives, sooner where the word is short.
+// Inline, since a call would pass both words through memory.
+#[inline(always)]
 pub fn short_word(rest: Option<&[u8]>) -> Option<(&[u8], Option<&[u8]>)>
     ensures { option_map (λ w. (w.0.now, option_map (λ s. s.now) w.1)) result
         ≡ word_at (option_map (λ s. s.now) rest.entry) }

@@ -29,6 +29,8 @@ pub enum WordFault {
 }
 
 /// What stands before the first separator, and what follows it, if it is there.
+// Inline, since a call would pass both words through memory.
+#[inline(always)]
 #[tactic(auto, using(crate::proofs::Cuts::found, crate::proofs::Cuts::missing))]
 pub fn split_at(text: &[u8], separator: u8) -> (&[u8], Option<&[u8]>)
     ensures { cut separator text.now ≡ (result.0.now, option_map (λ s. s.now) result.1) }
@@ -40,6 +42,8 @@ pub fn split_at(text: &[u8], separator: u8) -> (&[u8], Option<&[u8]>)
 }
 
 /// The next word of what is left of a line, and what follows the one space behind it.
+// Inline, since a call would pass both words through memory.
+#[inline(always)]
 pub fn word(rest: Option<&[u8]>) -> Option<(&[u8], Option<&[u8]>)>
     ensures { option_map (λ w. (w.0.now, option_map (λ s. s.now) w.1)) result
         ≡ word_at (option_map (λ s. s.now) rest.entry) }
@@ -130,6 +134,8 @@ fn fill_octets(octets: &mut [u8], digits: &[u8])
 
 /// The octets that pairs of hexadecimal digits of either case spell, in this room; what it held goes. No digits spell no octets. `Bad`
 /// where these are no such pairs, `Memory` if allocation fails.
+// Inline, since a call would pass the room through memory.
+#[inline(always)]
 #[tactic(auto, using(crate::proofs::HexDigits::none_spelled))]
 fn decode_hex_in(room: Vec<u8>, digits: &[u8]) -> Result<Vec<u8>, WordFault>
     ensures { Gives (λ v. v.items) result (result_ok (decode_of digits.now)) }
@@ -159,6 +165,8 @@ pub fn decode_hex(alloc: Global, digits: &[u8]) -> Result<Vec<u8>, WordFault>
 
 /// The octets that hexadecimal text of either case spells, in this room; what it held goes. A hyphen spells none. `Bad` where the word
 /// is neither, `Memory` if allocation fails.
+// Inline, since a call would pass the room through memory.
+#[inline(always)]
 pub fn hex_octets_in(room: Vec<u8>, word: &[u8]) -> Result<Vec<u8>, WordFault>
     ensures { Gives (λ v. v.items) result (hex_octets_of word.now) }
 {

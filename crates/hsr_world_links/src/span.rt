@@ -65,6 +65,8 @@ pub fn inject_at(
 }
 
 /// The oldest copy that waits in a direction comes into the hand.
+// Inline, since a call would pass the copy through memory.
+#[inline(always)]
 fn take_into(link: &mut Link, lane: &mut Lane, dir: Dir) -> Result<(), WorldFault>
     ensures ok { OnOk result (take_lane dir link.old (lane_view lane.old)
         ≡ Ok (link.new, lane_view lane.new)) }
@@ -108,6 +110,8 @@ pub fn take_at(spans: &mut [Span], link: usize, dir: Dir) -> Result<(), WorldFau
 }
 
 /// The oldest copy of the outbox goes onto the link.
+// Inline, since a call would pass the copy through memory.
+#[inline(always)]
 fn put_from(link: &mut Link, lane: &mut Lane, dir: Dir) -> Result<(), WorldFault>
     ensures ok { OnOk result (put_lane dir link.old (lane_view lane.old)
         ≡ Ok (link.new, lane_view lane.new)) }

@@ -1,4 +1,4 @@
-use Rattle.std.proofs.Common.{◌∷◌, ap, subst}
+use Rattle.std.proofs.Common.{◌∷◌, subst}
 use Rattle.hsr_recent_table.specs.Recent.{Knows, Put}
 use Rattle.hsr_frame_groups.proofs.Grouping.{put_same}
 use Rattle.hsr_frame_groups.proofs.frames.put_copy.Goals as goal

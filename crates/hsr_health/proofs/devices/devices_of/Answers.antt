@@ -10,7 +10,7 @@ use Rattle.hsr_health.specs.Numbering.{AreGroups, IsLedger, group_name, life_num
 use Rattle.hsr_health.specs.Whole.{lanes_of, lives_of, unreadable_of}
 use Rattle.hsr_health.proofs.Gapping.{groups_small}
 use Rattle.hsr_health.proofs.Measuring.{short_those}
-use Rattle.hsr_sightings.specs.Read.{AreRead, TellsEach}
+use Rattle.hsr_sightings.specs.Read.{TellsEach}
 use Rattle.hsr_sightings.specs.Ring.{Ring}
 use Rattle.hsr_taps.specs.Tallies.{is_at}
 use Rattle.hsr_health.proofs.devices.devices_of.Goals as goal
@@ -20,13 +20,10 @@ life_runs-requires c =
     omega (
       arith,
       ap length c.as_slice-3.ensures.value,
-      ap length c.in_ok-heard.ensures.read,
+      ap length c.requires.heard.read,
       short_those (heard_at c.args.ring.now) c.args.copies.now 0 c.args.copies.now,
       c.requires.caught.few,
     )
-
-pub heard_of-requires-clause-read : goal.heard_of-requires-clause-read
-heard_of-requires-clause-read c = subst (AreRead c.args.copies.now) (sym c.as_slice-firsts.ensures.value) c.requires.framed.1.read
 
 pub frame_runs-requires-clause-marks : goal.frame_runs-requires-clause-marks
 frame_runs-requires-clause-marks c =
@@ -61,9 +58,9 @@ returns c =
       grouped = c.in_ok-groups.ensures.long ∙ ap length c.as_slice-macs.ensures.value;
       groups = subst (λ l. AreGroups (map (group_name l) sources.macs.items) c.in_ok-groups.groups.items) c.as_slice-told.ensures.value
           (subst (λ l. AreGroups (map (group_name c.as_slice-told.result.now) l) c.in_ok-groups.groups.items) c.as_slice-macs.ensures.value c.in_ok-groups.ensures.groups);
-      heard = c.in_ok-heard.field-0.heard.items;
-      unread = c.in_ok-heard.field-0.unread.items;
-      are_heard = c.in_ok-heard.ensures;
+      heard = c.args.hearing.heard.items;
+      unread = c.args.hearing.unread.items;
+      are_heard = c.requires.heard;
       lives_are = λ k own here.
           let read = c.count_unread.ensures.others k own here in
           let first = c.count_lives.ensures.lives k read.0 read.1 in
@@ -74,9 +71,9 @@ returns c =
           let before = c.count_lives.ensures.others k read.0 read.1 in
           let none = c.in_ok-counted.ensures.none k before.0 before.1 in
           read.2 (before.2 ∙ ap (λ (x : Counts). x.unreadable) none) ∙ ap (λ l. capped (unreadable_of l c.as_slice-2.result.now k)) of_copy ∙ ap (λ l. capped (unreadable_of sources.of_copy.items l k)) c.as_slice-2.ensures.value;
-      abouts = subst (λ (r : Ring). AreAbouts c.in_ok-heard.field-0.heard.items r.start r.end c.in_ok-abouts.abouts.all.items c.in_ok-abouts.abouts.silences.items) c.ring.view_is c.in_ok-abouts.ensures;
+      abouts = subst (λ (r : Ring). AreAbouts c.args.hearing.heard.items r.start r.end c.in_ok-abouts.abouts.all.items c.in_ok-abouts.abouts.silences.items) c.ring.view_is c.in_ok-abouts.ensures;
       ledger = subst (λ n. IsLedger (those_of (numbered_at sources.of_copy.items c.in_ok-groups.groups.items) copies) n c.in_ok-ledger.ledger) many
           (subst (λ l. IsLedger l c.len-many.result c.in_ok-ledger.ledger) numbered (c.in_ok-ledger.ensures _ c.in_ok-placed.ensures));
-      lives = subst (λ n. IsLedger (filter_map (life_number sources.of_copy.items) c.in_ok-heard.field-0.heard.items) n c.in_ok-lives.lives) many
+      lives = subst (λ n. IsLedger (filter_map (life_number sources.of_copy.items) c.args.hearing.heard.items) n c.in_ok-lives.lives) many
           (subst (λ l. IsLedger l c.len-many.result c.in_ok-lives.lives) said (c.in_ok-lives.ensures _ c.in_ok-said.ensures));
     }

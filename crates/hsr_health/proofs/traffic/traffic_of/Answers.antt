@@ -36,14 +36,14 @@ pub returns : goal.returns
 returns c =
     let choice = c.args.choice.now in
     let sorted = c.in_ok-sorted.sorted.items in
-    let tapped = c.in_ok-tapped.tapped in
+    let tapped = c.in_ok-tapped.field-0.tapped in
     let loads = c.in_ok-loads.loads.items in
     let packets = ap (λ (x : CaptureFields). x.packets) c.capture.view_is in
     let interfaces = c.args.capture.interfaces in
     let by_number = c.as_slice-by_number.ensures.value ∙ ap (λ (x : CaptureFields). x.interfaces) c.capture.view_is in
     let looked = c.in_ok-looked.looked.items in
     let looks = subst (λ l. AreLookedAt choice l looked) by_number c.in_ok-looked.ensures in
-    let tap_is = subst (λ l. IsTapped choice l sorted c.in_ok-tapped.ensures.0 tapped) by_number c.in_ok-tapped.ensures.1 in
+    let tap_is = subst (λ l. IsTapped choice l sorted c.in_ok-tapped.ensures.0 tapped c.in_ok-tapped.field-0.copies.items) by_number c.in_ok-tapped.ensures.1 in
     record {
       packets = sorted;
       in_time = subst (λ l. IsInTime l sorted) packets c.in_ok-sorted.ensures;

@@ -68,7 +68,7 @@ returns c =
             (subst (λ l. AreTalliesBy looked l c.in_ok-told.told.items) counted c.in_ok-told.ensures.tallies);
         taps = taps_are choice.taps looked packets tallies taps taps_is tallied;
         points = c.in_ok-named.ensures.names;
-        copies = found;
+        are_copies = found;
         strays = c.in_ok-sorted.ensures.strays ∙ ap (λ t. strays_in looked t packets) c.as_slice-by_interface.ensures.value;
         point_of = (owners, c.in_ok-named.ensures.owners, places);
         way_of = ways_are copies lane_a lane_b c.in_ok-way_of.way_of.items c.in_ok-way_of.ensures.long alike in_a in_b c.in_ok-way_of.ensures.ways;

@@ -3,7 +3,7 @@ use Rattle.hsr_health.specs.Whole.{is_lane}
 use Rattle.hsr_health.proofs.Finding.{range_more}
 use Rattle.hsr_taps.specs.Directions.{interface_of}
 use Rattle.std.proofs.Common.{ℕ}
-use Rattle.hsr_health.proofs.framed.by_lane.Goals as goal
+use Rattle.hsr_health.proofs.contents.by_lane.Goals as goal
 
 pub loop-d-preserved : goal.loop-d-preserved
 loop-d-preserved c =

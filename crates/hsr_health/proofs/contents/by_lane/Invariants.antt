@@ -3,7 +3,7 @@ use Rattle.std.specs.Prelude.{slice_get}
 use Rattle.std.specs.List.{range_with_len}
 use Rattle.hsr_health.specs.Whole.{is_lane}
 use Rattle.hsr_taps.specs.Directions.{interface_of}
-use Rattle.hsr_health.proofs.framed.by_lane.Given as goal
+use Rattle.hsr_health.proofs.contents.by_lane.Given as goal
 
 -- the directions so far
 abbrev pub invariant-loop-d : goal.invariant-loop-d
