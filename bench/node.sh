@@ -1,10 +1,12 @@
 #!/usr/bin/env bash
 # Measures `hsr_bench node` over 200,000 lines: sends of about 46 octets a line, and then mixed lines with 20 octets of
-# payload, of which half are arrivals and a third of those second copies. Three runs each: processor time, peak memory.
+# payload, of which half are arrivals and a third of those second copies. Three runs each: processor time, and most memory in MB of 10^6
+# octets (what GNU's time calls KB has 1024).
+# Usage: bench/node.sh [LINES [HSR_BENCH]], or that of bin/. It needs GNU's /usr/bin/time.
 set -eu
 top=$(cd "$(dirname "${BASH_SOURCE[0]}")/.." && pwd)
-lines=${1:-200000}
-"$top/bin/hsr_bench" < /dev/null > /dev/null # builds the program, where that is to be done
+lines=${1:-200000} bench=${2:-$top/bin/hsr_bench}
+"$bench" < /dev/null > /dev/null # builds the program, where that is to be done
 work=$(mktemp -d); trap 'rm -rf "$work"' EXIT
 payload=ABABABABABABABABABABABABABABABABABABABAB
 awk -v n="$lines" 'BEGIN {
@@ -21,7 +23,8 @@ awk -v n="$lines" -v p="$payload" 'BEGIN {
 }' > "$work/mixed"
 for input in sends mixed; do
   for run in 1 2 3; do
-    /usr/bin/time -f "$lines $input lines: %U s of processor time, %M KB at most" "$top/bin/hsr_bench" node < "$work/$input" > "$work/$input.out"
+    /usr/bin/time -f '%U %S %M' -o "$work/told" "$bench" node < "$work/$input" > "$work/$input.out"
+    awk -v what="$lines $input lines" '{ printf "%s: %.2f s of processor time, %.1f MB at most\n", what, $1 + $2, $3 * 1024 / 1e6 }' "$work/told"
   done
   tail -n 1 "$work/$input.out"
 done

@@ -85,7 +85,7 @@ impl<'a> Caught<'a> {
         ensures { result ≡ self.now }
     {
         let copy = self.copy();
-        // For clauses alone, so this copy of the octets isn't made.
+        // For clauses alone: the note keeps none of these octets.
         let octets = copied(self.octets);
         Noted {
             at: self.at,
