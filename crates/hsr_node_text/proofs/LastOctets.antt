@@ -7,7 +7,7 @@ use Rattle.std.specs.List.{list_all}
 use Rattle.std.specs.Result.{result_ok}
 use Rattle.hex.specs.Hex.{decode_of}
 use Rattle.hsr_text.proofs.Cuts.{cut_found, cut_missing}
-use Rattle.hsr_text.proofs.HexDigits.{none_spelled}
+use Rattle.hsr_digits.proofs.HexDigits.{none_spelled}
 use Rattle.hsr_text.specs.Words.{◌>>=◌, cut, hex_octets_of}
 use Rattle.hsr_node_text.specs.Request.{last_octets}
 

@@ -2,11 +2,13 @@
 //!
 //! Its modules, in the order in which to read them:
 //! - `request`: what an input line of `node` asks for
+//! - `arrived`: what goes up, where it stands
 //! - `reply`: the lines that answer an event, and the line of counters
 //! - `answer`: what a node answers to a line
 #![tactic(auto)]
 
 mod answer;
+mod arrived;
 mod reply;
 mod request;
 

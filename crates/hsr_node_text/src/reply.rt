@@ -7,17 +7,16 @@ ghost use Rattle.hsr_frame.specs.Words.{cause_text, fault_text};
 ghost use Rattle.hsr_node.specs.Copies.{up_octets};
 ghost use Rattle.hsr_node_text.specs.Reply.{copies_text, copy_text, counter_line, is_told_again, leaving_text, number_text, outcome_line, outcome_text, passed_text, port_text, refusal_code, refused_text, stopped_text, verdict_text, word_if};
 
+use crate::arrived::up_pieces;
 use hsr_frame::{Cause, Counters, FrameFault, NoMemory};
-use hsr_node::{Event, Outcome, Place, StepFault, spelled_out, spelled_up};
-use hsr_tag::Spelled;
+use hsr_node::{Event, Outcome, Place, StepFault, spelled_out};
 use hsr_text::{put, put_count, put_hex, put_octets};
 
-/// Puts the octets of a frame, as hexadecimal digits.
-fn put_spelled(text: &mut Vec<u8>, spelled: &Spelled<'_>) -> Result<(), NoMemory>
-    ensures { OnOk result (text.new.items ≡ text.old.items ++ encode_upper spelled.now) }
+/// Puts the octets of a frame, which stand in two pieces, as hexadecimal digits.
+fn put_pieces(text: &mut Vec<u8>, front: &[u8], rest: &[u8]) -> Result<(), NoMemory>
+    ensures { OnOk result (text.new.items ≡ text.old.items ++ encode_upper (front.now ++ rest.now)) }
 {
-    let (head, rest) = spelled.pieces();
-    put_hex(text, head)?;
+    put_hex(text, front)?;
     put_hex(text, rest)
 }
 
@@ -30,12 +29,13 @@ fn end_line(text: &mut Vec<u8>) -> Result<(), NoMemory>
     Ok(())
 }
 
-/// Puts the octets that leave by an egress behind its name, and ends the line.
-fn put_leaving(text: &mut Vec<u8>, octets: &Spelled<'_>) -> Result<(), NoMemory>
-    ensures { OnOk result (text.new.items ≡ text.old.items ++ leaving_text [] (Some octets.now)) }
+/// Puts the octets that leave by an egress, which stand in two pieces, behind its name, and ends the line.
+fn put_leaving(text: &mut Vec<u8>, front: &[u8], rest: &[u8]) -> Result<(), NoMemory>
+    ensures { OnOk result (text.new.items
+        ≡ text.old.items ++ leaving_text [] (Some (front.now ++ rest.now))) }
 {
     text.push(b' ')?;
-    put_spelled(text, octets)?;
+    put_pieces(text, front, rest)?;
     end_line(text)
 }
 
@@ -54,7 +54,8 @@ fn put_copy(
         None => Ok(()),
         Some(octets) => {
             text.push(place.letter(port))?;
-            put_leaving(text, &octets)
+            let (front, rest) = octets.pieces();
+            put_leaving(text, front, rest)
         }
     }
 }
@@ -64,12 +65,11 @@ fn put_up(text: &mut Vec<u8>, event: &Event, outcome: &Outcome) -> Result<(), No
     ensures { OnOk result (text.new.items
         ≡ text.old.items ++ leaving_text (codes "up") (up_octets event.now outcome.now)) }
 {
-    // An outcome holds no frame, so what goes up is read anew from the octets that came.
-    match spelled_up(event, outcome) {
+    match up_pieces(event, outcome) {
         None => Ok(()),
-        Some(octets) => {
+        Some((front, rest)) => {
             put(text, "up")?;
-            put_leaving(text, &octets)
+            put_leaving(text, front, rest)
         }
     }
 }

@@ -1,4 +1,3 @@
-pub mod HexDigits
 pub mod Decimals
 pub mod Cuts
 pub mod LineCuts

@@ -1,23 +1,16 @@
 //! The words of a line of text, and texts that grow by words.
-ghost use Rattle.std.specs.Prelude.{◌≡◌, ◌*◌, ◌++◌, ℕ, None, Ok, Some, [], ◌∷◌, length, option_map, true, OnErr, OnOk};
-ghost use Rattle.std.specs.Char.{is_ascii_hexdigit};
-ghost use Rattle.std.specs.List.{list_all};
+ghost use Rattle.std.specs.Prelude.{◌≡◌, ◌++◌, option_map, OnErr, OnOk};
 ghost use Rattle.std.specs.Fmt.{decimal as decimal_text};
 ghost use Rattle.std.specs.Result.{result_ok};
-ghost use Rattle.hex.specs.Hex.{decode_of, decode_pairs, encode_upper, pair_value};
+ghost use Rattle.hex.specs.Hex.{decode_of, encode_upper};
 ghost use Rattle.hsr_text.specs.Words.{Gives, cut, decimal_of, hex_octets_of, hex_pair_of, mac_text, word_at};
 
 use hex::FromHex;
+use hsr_digits::{read_hex, write_hex};
 use hsr_frame::{Mac, NoMemory};
 use itoa::Buffer;
 use memchr::memchr;
 use std::alloc::Global;
-
-/// How many octets are written at once, by vectors.
-const BLOCK: usize = 8;
-
-/// How many digits are tested at once.
-const DIGIT_BLOCK: usize = 16;
 
 /// Why a word isn't read.
 #[derive(Clone, Copy, PartialEq, Eq)]
@@ -84,66 +77,14 @@ pub fn hex_pair(word: &[u8]) -> Option<u16>
     }
 }
 
-/// Whether each of these is a hexadecimal digit of either case. The loop has no branches, so that it is one of vectors.
-#[tactic(auto, using(crate::proofs::HexDigits::one_digit_more))]
-fn each_is_digit(digits: &[u8]) -> bool
-    ensures { result ≡ list_all is_ascii_hexdigit digits.now }
-{
-    let mut all = true;
-    for digit in digits {
-        // `&` and not `&&`, which would branch.
-        all &= digit.is_ascii_hexdigit();
-    }
-    all
-}
-
-/// Whether all of these are hexadecimal digits of either case.
-fn are_digits(digits: &[u8]) -> bool
-    ensures { result ≡ list_all is_ascii_hexdigit digits.now }
-{
-    // In blocks, of which the last may overlap the one before it, as in `write_hex`.
-    let whole = digits.len().saturating_sub(1) / DIGIT_BLOCK * DIGIT_BLOCK;
-    let last = digits.len().saturating_sub(DIGIT_BLOCK);
-    each_is_digit(&digits[..whole]) && each_is_digit(&digits[last..])
-}
-
-/// The octet that two hexadecimal digits of either case spell.
-fn octet_of(high: u8, low: u8) -> u8
-    ensures { (i : ℕ) → is_ascii_hexdigit high ≡ true → is_ascii_hexdigit low ≡ true
-        → pair_value high low i ≡ Ok result }
-{
-    // Both at once, each in an octet of one number, since vectors read what stands together.
-    let pair = u16::from_le_bytes([high, low]);
-    // The low bits of a letter are its place from 1, and a letter has a bit that a number lacks: 9 more is its value.
-    let eights = (pair & 0x4040) >> 3;
-    let values = (pair & 0x0F0F) + eights + (eights >> 3);
-    // The first value goes four bits above the second. Of other characters this means nothing, and nobody asks for it.
-    (values.wrapping_mul(0x1001) >> 8) as u8
-}
-
-/// Fills a slice with the octets that pairs of hexadecimal digits spell.
-fn fill_octets(octets: &mut [u8], digits: &[u8])
-    requires length { length digits.now ≡ 2 * length octets.old }
-    requires digits { list_all is_ascii_hexdigit digits.now ≡ true }
-    ensures { result_ok (decode_pairs 0 digits.now) ≡ Some octets.new }
-{
-    for i in 0..octets.len() {
-        octets[i] = octet_of(digits[2 * i], digits[2 * i + 1]);
-    }
-}
-
 /// The octets that pairs of hexadecimal digits of either case spell, in this room; what it held goes. No digits spell no octets. `Bad`
 /// where these are no such pairs, `Memory` if allocation fails.
 // Inline, since a call would pass the room through memory.
 #[inline(always)]
-#[tactic(auto, using(crate::proofs::HexDigits::none_spelled))]
 fn decode_hex_in(room: Vec<u8>, digits: &[u8]) -> Result<Vec<u8>, WordFault>
     ensures { Gives (λ v. v.items) result (result_ok (decode_of digits.now)) }
 {
     if digits.len() % 2 != 0 {
-        return Err(WordFault::Bad);
-    }
-    if !are_digits(digits) {
         return Err(WordFault::Bad);
     }
     let mut octets = room;
@@ -151,8 +92,11 @@ fn decode_hex_in(room: Vec<u8>, digits: &[u8]) -> Result<Vec<u8>, WordFault>
     let Ok(()) = octets.resize(digits.len() / 2, 0) else {
         return Err(WordFault::Memory);
     };
-    fill_octets(octets.as_mut_slice(), digits);
-    Ok(octets)
+    if read_hex(octets.as_mut_slice(), digits) {
+        Ok(octets)
+    } else {
+        Err(WordFault::Bad)
+    }
 }
 
 /// The octets that pairs of hexadecimal digits of either case spell; no digits spell none. `Bad` where these are no such pairs,
@@ -232,40 +176,4 @@ pub fn put_hex(text: &mut Vec<u8>, octets: &[u8]) -> Result<(), NoMemory>
     text.resize(end, 0)?;
     write_hex(&mut text.as_mut_slice()[start..], octets);
     Ok(())
-}
-
-/// The two hexadecimal digits of an octet, in upper case.
-fn digits_of(octet: u8) -> [u8; 2]
-    ensures { result ≡ encode_upper (octet ∷ []) }
-{
-    // Both at once, each in an octet of one number, as in `octet_of`: the high four bits, and above them the low ones.
-    let values = u16::from(octet).wrapping_mul(0x1001) >> 4;
-    // From ten on, 6 more reaches the bit of 16. There the digit is a letter, and its code is 7 more than a number's would be.
-    let eights = ((values + 0x0606) & 0x1010) >> 1;
-    (values + 0x3030 + eights - (eights >> 3)).to_le_bytes()
-}
-
-/// Fills a slice with the hexadecimal digits of octets, in upper case, from the first octet to the last.
-fn write_each(digits: &mut [u8], octets: &[u8])
-    requires { length digits.old ≡ 2 * length octets.now }
-    ensures { digits.new ≡ encode_upper octets.now }
-{
-    for i in 0..octets.len() {
-        let [high, low] = digits_of(octets[i]);
-        digits[2 * i] = high;
-        digits[2 * i + 1] = low;
-    }
-}
-
-/// Fills a slice with the hexadecimal digits of octets, in upper case.
-fn write_hex(digits: &mut [u8], octets: &[u8])
-    requires { length digits.old ≡ 2 * length octets.now }
-    ensures { digits.new ≡ encode_upper octets.now }
-{
-    // Whole blocks, and then the last block, of which some octets may be written a second time: one by one, each octet that is left
-    // over would take nearly as long as a block.
-    let whole = octets.len().saturating_sub(1) / BLOCK * BLOCK;
-    write_each(&mut digits[..2 * whole], &octets[..whole]);
-    let last = octets.len().saturating_sub(BLOCK);
-    write_each(&mut digits[2 * last..], &octets[last..]);
 }

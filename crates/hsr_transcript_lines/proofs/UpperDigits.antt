@@ -5,7 +5,7 @@ use Rattle.std.proofs.lemmas.Bool.Decides.{nat_tests}
 use Rattle.hex.specs.Hex.{◌>>=◌, decode_of, decode_pairs, digit_or_error, encode_upper, encode_with, hex_digit_value, upper_digits}
 use Rattle.hex.specs.declared.error.FromHexError.{FromHexError}
 use Rattle.hex.proofs.HexLemmas.{decode_of-even, decode_of-ok}
-use Rattle.hsr_text.proofs.HexDigits.{high_digit, low_digit}
+use Rattle.hsr_digits.proofs.HexDigits.{high_digit, low_digit}
 use Rattle.hsr_transcript_lines.specs.Exact.{is_upper}
 
 small : (c v : ℕ) → hex_digit_value c ≡ Some v → v < 16

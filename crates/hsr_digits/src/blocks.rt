@@ -1,0 +1,134 @@
+//! Octets and their hexadecimal digits in blocks of 16 octets, of which each is one vector: sooner than what the compiler makes of a loop over
+//! octets, since one look finds 16 digits in a table.
+ghost use Rattle.std.specs.Prelude.{◌≡◌, ◌≤◌, ◌<◌, ◌*◌, ◌+◌, ◌++◌, ◌/◌, ◌%◌, ◌&&◌, ℕ, Ok, Some, None, if◌then◌else◌, drop, length, map, slice_index, take, true};
+ghost use Rattle.std.specs.Char.{is_ascii_hexdigit};
+ghost use Rattle.std.specs.List.{list_all};
+ghost use lib.Lanes.{Each1};
+ghost use Rattle.std.specs.Result.{result_ok};
+ghost use Rattle.hex.specs.Hex.{decode_pairs, encode_upper, pair_value, upper_digits};
+ghost use Rattle.hsr_digits.specs.Values.{is_small, value};
+
+use std::simd::prelude::*;
+
+/// How many octets a vector holds.
+pub(crate) const LANES: usize = 16;
+
+/// The sixteen digits, in upper case.
+#[inline(always)]
+fn table() -> u8x16
+    ensures { result ≡ upper_digits }
+{
+    u8x16::from_array(*b"0123456789ABCDEF")
+}
+
+/// The digit of each value below 16.
+#[inline(always)]
+fn digits_of(values: u8x16) -> u8x16
+    requires { Each1 (λ v. v < 16) values }
+    ensures { result ≡ map (λ v. slice_index upper_digits v) values }
+{
+    table().swizzle_dyn(values)
+}
+
+/// The first digit of each octet.
+#[inline(always)]
+fn high_digits(octets: u8x16) -> u8x16
+    ensures { result ≡ map (λ o. slice_index upper_digits (o / 16)) octets }
+{
+    digits_of(octets >> u8x16::splat(4))
+}
+
+/// The second digit of each octet.
+#[inline(always)]
+fn low_digits(octets: u8x16) -> u8x16
+    ensures { result ≡ map (λ o. slice_index upper_digits (o % 16)) octets }
+{
+    digits_of(octets & u8x16::splat(15))
+}
+
+/// Writes the 32 digits of the first 16 octets over the first 32 of `digits`.
+#[inline(always)]
+fn write_block(digits: &mut [u8], octets: &[u8])
+    requires room { 32 ≤ length digits.old }
+    requires octets { 16 ≤ length octets.now }
+    ensures { digits.new ≡ encode_upper (take 16 octets.now) ++ drop 32 digits.old }
+{
+    let values = u8x16::from_slice(octets);
+    let (first, second) = high_digits(values).interleave(low_digits(values));
+    first.copy_to_slice(digits);
+    second.copy_to_slice(&mut digits[16..]);
+}
+
+/// What each character is worth as a digit, of either case: 16 or more where it is none.
+#[inline(always)]
+fn values_of(characters: u8x16) -> u8x16
+    ensures { result ≡ map value characters }
+{
+    // `0` to `9` come to 246 to 255, and from there to 0 to 9. Others come to 16 and more: without saturation `:` to `?` would come to 10 to 15.
+    let numbers = (characters + u8x16::splat(0xC6)).saturating_sub(u8x16::splat(6))
+        - u8x16::splat(0xF0);
+    // Without the bit of lower case, `A` to `F` come to 10 to 15. Others come to 16 and more: without saturation `@` would come to 9.
+    let letters = ((characters & u8x16::splat(0xDF)) - u8x16::splat(b'A')).saturating_add(
+        u8x16::splat(10),
+    );
+    numbers.simd_min(letters)
+}
+
+/// Whether each lane is below 16.
+#[inline(always)]
+fn are_small(lanes: u8x16) -> bool
+    ensures { result ≡ list_all is_small lanes }
+{
+    // 16 is a power of two, so that all are below it where their bits together are.
+    lanes.reduce_or() < 16
+}
+
+/// Reads the first 32 digits into the first 16 octets, and gathers in `seen` the bits of what they were worth: whether all were digits is
+/// asked once, behind the last block.
+#[inline(always)]
+fn read_block(octets: &mut [u8], digits: &[u8], seen: u8x16) -> u8x16
+    requires room { 16 ≤ length octets.old }
+    requires digits { 32 ≤ length digits.now }
+    ensures seen { list_all is_small result
+        ≡ (list_all is_small seen && list_all is_ascii_hexdigit (take 32 digits.now)) }
+    ensures read { (j k : ℕ) → j < 16 → is_ascii_hexdigit (slice_index digits.now (2 * j)) ≡ true
+        → is_ascii_hexdigit (slice_index digits.now (2 * j + 1)) ≡ true
+        → pair_value (slice_index digits.now (2 * j)) (slice_index digits.now (2 * j + 1)) k
+        ≡ Ok (slice_index octets.new j) }
+{
+    let (high, low) = u8x16::from_slice(digits).deinterleave(u8x16::from_slice(&digits[16..]));
+    let (high, low) = (values_of(high), values_of(low));
+    ((high << u8x16::splat(4)) + low).copy_to_slice(octets);
+    seen | high | low
+}
+
+/// Writes the digits of 16 octets or more, in upper case.
+pub(crate) fn write_blocks(digits: &mut [u8], octets: &[u8])
+    requires room { length digits.old ≡ 2 * length octets.now }
+    requires long { 16 ≤ length octets.now }
+    ensures { digits.new ≡ encode_upper octets.now }
+{
+    // The last block ends with the octets, and may write digits again that the one before it wrote.
+    let last = octets.len() - LANES;
+    for block in 0..last.div_ceil(LANES) {
+        let at = LANES * block;
+        write_block(&mut digits[2 * at..], &octets[at..]);
+    }
+    write_block(&mut digits[2 * last..], &octets[last..]);
+}
+
+/// Reads 16 octets or more, which pairs of digits of either case spell. False where a character is no digit: then the octets mean nothing.
+pub(crate) fn read_blocks(octets: &mut [u8], digits: &[u8]) -> bool
+    requires room { length digits.now ≡ 2 * length octets.old }
+    requires long { 16 ≤ length octets.old }
+    ensures { (if result then Some octets.new else None) ≡ result_ok (decode_pairs 0 digits.now) }
+{
+    let last = octets.len() - LANES;
+    let mut seen = u8x16::splat(0);
+    for block in 0..last.div_ceil(LANES) {
+        let at = LANES * block;
+        seen = read_block(&mut octets[at..], &digits[2 * at..], seen);
+    }
+    seen = read_block(&mut octets[last..], &digits[2 * last..], seen);
+    are_small(seen)
+}

@@ -1,5 +1,0 @@
-use Rattle.hsr_text.proofs.HexDigits.{Reads}
-use Rattle.hsr_text.proofs.words.fill_octets.Given as goal
-
-abbrev pub invariant-loop-i : goal.invariant-loop-i
-invariant-loop-i l = Reads l.digits l.octets l.i
