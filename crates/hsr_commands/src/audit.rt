@@ -15,7 +15,7 @@ ghost use Rattle.hsr_table_size.specs.Sizes.{capacity_of};
 use crate::fault::{Fault, Status, TranscriptFault};
 use crate::naming::naming_by;
 use crate::notes::Notes;
-use crate::shown::{ShownRun, deliver, finding_of, report_of, tables_if};
+use crate::shown::{ShownRun, deliver, finding_of, leave, report_of, tables_if};
 use hsr_files::Disk;
 use hsr_finished_run::Closed;
 use hsr_head::{front, read_head, told_size};
@@ -155,6 +155,7 @@ fn audited<R: Read, const C: usize>(
             // A transcript has no names: those of the scenario are used, if there is one.
             let octets = octets_of(audit.scenario);
             notes.of_run(alloc, octets, &closed, shown.finding, audit.asked.budget);
+            leave(closed);
             Ok(shown)
         }
         Err(fault) => Err(fault),

@@ -15,7 +15,7 @@ use crate::left::open_text;
 use crate::naming::node_naming;
 use crate::notes::Notes;
 use crate::reading::scenario_of;
-use crate::shown::{ShownRun, asks_budget, audit_and_show, deliver};
+use crate::shown::{ShownRun, asks_budget, audit_and_show, deliver, leave};
 use crate::text::read_text;
 use hsr_files::Disk;
 use hsr_finished_run::{CheckFault, Closed};
@@ -27,7 +27,6 @@ use hsr_table_size::{TableSize, at_size};
 use hsr_topology::Topology;
 use std::alloc::Global;
 use std::io::{Read, Write};
-use std::mem;
 
 /// A scenario that was played: the world to which it leads, and its nodes and links.
 #[derive(Drop)]
@@ -160,9 +159,7 @@ fn reported<const C: usize>(
     match reached.world.close() {
         Ok(closed) => {
             let shown = finished(alloc, octets, &closed, showing, folder, notes);
-            // The program ends with what is shown, and all its memory goes back at once: to free each copy of the run by itself first
-            // would only take time.
-            mem::forget(closed);
+            leave(closed);
             shown
         }
         Err((world, fault)) => {

@@ -20,6 +20,7 @@ use hsr_run_tables::{RunTables, run_tables};
 use hsr_transcript::write;
 use std::alloc::Global;
 use std::io::Write;
+use std::mem;
 
 /// What is shown of a finished run: what its audit found, a text, and its tables, if a folder is given for them.
 #[derive(Drop)]
@@ -27,6 +28,13 @@ pub struct ShownRun {
     pub finding: Finding,
     pub text: Vec<u8>,
     pub tables: Option<RunTables>,
+}
+
+/// Leaves a run that was shown as it is.
+// The program ends with what is shown, and all its memory goes back at once: to free each copy of the run by itself first would only take
+// time.
+pub(crate) fn leave<const C: usize>(closed: Closed<C>) {
+    mem::forget(closed);
 }
 
 /// The transcript of a finished run.

@@ -12,7 +12,7 @@ ghost use Rattle.hsr_commands.specs.declared.fault.Status.TheVariants.{Fault as 
 use crate::fault::{Fault, Status};
 use crate::notes::Notes;
 use crate::reading::scenario_of;
-use crate::shown::{ShownRun, asks_budget, audit_and_show, deliver};
+use crate::shown::{ShownRun, asks_budget, audit_and_show, deliver, leave};
 use crate::text::read_text;
 use hsr_files::Disk;
 use hsr_finished_run::Closed;
@@ -83,6 +83,7 @@ fn run_shown<H: Threads + Wait + Sync, const C: usize>(
     match audit_and_show(alloc, octets, &closed, showing, folder) {
         Ok(shown) => {
             notes.of_run(alloc, octets, &closed, shown.finding, asks_budget(showing));
+            leave(closed);
             Ok(shown)
         }
         Err(fault) => Err(fault),

@@ -1,12 +1,13 @@
 -- Vectors of 16 octets, lane by lane.
-use Rattle.std.proofs.Common.{ℕ, suc, ◌≡◌, ◌+◌, ◌*◌, ◌/◌, ◌%◌, ◌<◌, ◌≤◌, ◌∙◌, ◌&&◌, Bool, true, false, nat_le, nat_lt, bit_and, bit_or, List, [], ◌∷◌, ◌++◌, length, map, take, drop, slice_index, refl, sym, ap, arith, subst}
+use Rattle.std.proofs.Common.{ℕ, suc, ◌≡◌, ◌+◌, ◌-◌, ◌*◌, ◌/◌, ◌%◌, ◌^◌, ◌<◌, ◌≤◌, ◌∙◌, ◌&&◌, Bool, true, false, nat_le, bit_and, List, [], ◌∷◌, ◌++◌, length, map, take, drop, slice_index, refl, sym, ap, arith, subst}
 use Rattle.std.proofs.Math.Bool.{and_assoc, and-true}
 use Rattle.std.proofs.lemmas.Bool.Decides.{nat_tests}
-use Rattle.std.proofs.lemmas.Nat.{and_mask, le_or_l, le_or_r, or_lt}
+use Rattle.std.proofs.lemmas.Nat.{and_block, and_le_l, and_le_r, and_mask}
 use Rattle.std.proofs.lemmas.List.{append_assoc, drop-drop, drop_at, take_at}
 use Rattle.std.proofs.lemmas.Simd.{pick_l_whole, put_chunk_is, length-put_chunk, swz_l}
+use Rattle.std.specs.Int.Bits.{and_lt}
 use Rattle.std.specs.List.{list_all}
-use Rattle.hsr_digits.specs.Values.{is_small}
+use Rattle.hsr_digits.specs.Values.{is_marked}
 use lib.Lanes.{Each1, fold_l, pick_l, put_chunk}
 use Rattle.hex.specs.Hex.{encode_upper, encode_with, upper_digits}
 use lib.ListN.{get_or}
@@ -70,19 +71,28 @@ stored digits first second room one two =
     put_chunk_is 16 (put_chunk 0 digits first) second (omega (arith, long, two))
     ∙ rw (begun, front, back, rest) (sym (append_assoc first second (drop 32 digits)))
 
--- ---- numbers below 16
+-- ---- lanes of digits
 
-pub or_small : (a b : ℕ) → is_small (bit_or a b) ≡ (is_small a && is_small b)
-or_small a b = go (nat_lt a 16) refl (nat_lt b 16) refl
+pub both_marked : (a b : ℕ) → a < 256 → b < 256 → is_marked (bit_and a b) ≡ (is_marked a && is_marked b)
+both_marked a b one other = go (nat_le 240 a) refl (nat_le 240 b) refl
   where
-    go : (x : Bool) → nat_lt a 16 ≡ x → (y : Bool) → nat_lt b 16 ≡ y → nat_lt (bit_or a b) 16 ≡ (nat_lt a 16 && nat_lt b 16)
-    go false e y f = let above : nat_lt (bit_or a b) 16 ≡ false = grind (arith, nat_tests, le_or_l a b, e) in rw (above, e) refl
-    go true e false f = let above : nat_lt (bit_or a b) 16 ≡ false = grind (arith, nat_tests, le_or_r a b, f) in rw (above, e, f) refl
+    go : (x : Bool) → nat_le 240 a ≡ x → (y : Bool) → nat_le 240 b ≡ y → nat_le 240 (bit_and a b) ≡ (nat_le 240 a && nat_le 240 b)
+    go false e y f = let below : nat_le 240 (bit_and a b) ≡ false = grind (arith, nat_tests, and_le_l a b, e) in rw (below, e) refl
+    go true e false f = let below : nat_le 240 (bit_and a b) ≡ false = grind (arith, nat_tests, and_le_r a b, f) in rw (below, e, f) refl
     go true e true f =
-        let below : bit_or a b < 16 = or_lt 4 a b (grind (arith, nat_tests, e)) (grind (arith, nat_tests, f)) in
-        let small : nat_lt (bit_or a b) 16 ≡ true = grind (arith, nat_tests, below) in
-        rw (small, e, f) refl
+        let first : 240 ≤ a = grind (arith, nat_tests, e) in
+        let second : 240 ≤ b = grind (arith, nat_tests, f) in
+        let a_is : 15 * 2 ^ 4 + (a - 240) ≡ a = omega arith in
+        let b_is : 15 * 2 ^ 4 + (b - 240) ≡ b = omega arith in
+        let parts = and_block 4 15 15 (a - 240) (b - 240) (omega arith) (omega arith) in
+        let same : bit_and a b ≡ 15 * 2 ^ 4 + bit_and (a - 240) (b - 240) = rw (a_is, b_is) at parts in
+        let above : 240 ≤ bit_and a b = rw same (omega arith) in
+        let yes : nat_le 240 (bit_and a b) ≡ true = grind (arith, nat_tests, above) in
+        rw (yes, e, f) refl
 
-pub folded : (a : ℕ) (xs : List ℕ) → is_small (fold_l bit_or a xs) ≡ (is_small a && list_all is_small xs)
-folded a [] = sym (and-true (is_small a))
-folded a (x ∷ xs) = folded (bit_or a x) xs ∙ ap (λ t. t && list_all is_small xs) (or_small a x) ∙ and_assoc (is_small a) (is_small x) (list_all is_small xs)
+-- the bits that all share
+pub shared : (a : ℕ) (xs : List ℕ) → a < 256 → Each1 (λ x. x < 256) xs → is_marked (fold_l bit_and a xs) ≡ (is_marked a && list_all is_marked xs)
+shared a [] one all = sym (and-true (is_marked a))
+shared a (x ∷ xs) one all =
+    shared (bit_and a x) xs (and_lt 8 a x one all.0) all.1 ∙ ap (λ t. t && list_all is_marked xs) (both_marked a x one all.0)
+    ∙ and_assoc (is_marked a) (is_marked x) (list_all is_marked xs)

@@ -1,4 +1,4 @@
 pub mod HexDigits
 mod Lanes
 mod TwoDigits
-mod Overlaps
+pub mod Overlaps

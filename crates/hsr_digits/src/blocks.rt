@@ -6,7 +6,7 @@ ghost use Rattle.std.specs.List.{list_all};
 ghost use lib.Lanes.{Each1};
 ghost use Rattle.std.specs.Result.{result_ok};
 ghost use Rattle.hex.specs.Hex.{decode_pairs, encode_upper, pair_value, upper_digits};
-ghost use Rattle.hsr_digits.specs.Values.{is_small, value};
+ghost use Rattle.hsr_digits.specs.Values.{is_marked, marked};
 
 use std::simd::prelude::*;
 
@@ -59,47 +59,44 @@ fn write_block(digits: &mut [u8], octets: &[u8])
     second.copy_to_slice(&mut digits[16..]);
 }
 
-/// What each character is worth as a digit, of either case: 16 or more where it is none.
+/// Each character as a lane: 240 and what it is worth where it is a digit of either case, less where it is none.
 #[inline(always)]
-fn values_of(characters: u8x16) -> u8x16
-    ensures { result ≡ map value characters }
+fn marked_values(characters: u8x16) -> u8x16
+    ensures { result ≡ map marked characters }
 {
-    // `0` to `9` come to 246 to 255, and from there to 0 to 9. Others come to 16 and more: without saturation `:` to `?` would come to 10 to 15.
-    let numbers = (characters + u8x16::splat(0xC6)).saturating_sub(u8x16::splat(6))
-        - u8x16::splat(0xF0);
-    // Without the bit of lower case, `A` to `F` come to 10 to 15. Others come to 16 and more: without saturation `@` would come to 9.
-    let letters = ((characters & u8x16::splat(0xDF)) - u8x16::splat(b'A')).saturating_add(
-        u8x16::splat(10),
-    );
-    numbers.simd_min(letters)
+    // `0` to `9` come to 246 to 255, and from there to 240 to 249: without saturation `:` to `?` would come to 250 to 255.
+    let numbers = (characters + u8x16::splat(0xC6)).saturating_sub(u8x16::splat(6));
+    // One less, and without the bit of lower case, `A` to `F` come to 64 to 69, and from there to 250 to 255: nothing comes to 63, nor to 249.
+    let letters = ((characters - u8x16::splat(1)) & u8x16::splat(0xDF)) + u8x16::splat(0xBA);
+    numbers.simd_max(letters)
 }
 
-/// Whether each lane is below 16.
+/// Whether each lane is that of a digit.
 #[inline(always)]
-fn are_small(lanes: u8x16) -> bool
-    ensures { result ≡ list_all is_small lanes }
+fn are_marked(lanes: u8x16) -> bool
+    ensures { result ≡ list_all is_marked lanes }
 {
-    // 16 is a power of two, so that all are below it where their bits together are.
-    lanes.reduce_or() < 16
+    // 240 is the four high bits, so that all are as much where the bits that they share are.
+    lanes.reduce_and() >= 0xF0
 }
 
-/// Reads the first 32 digits into the first 16 octets, and gathers in `seen` the bits of what they were worth: whether all were digits is
-/// asked once, behind the last block.
+/// Reads the first 32 digits into the first 16 octets, and keeps in `seen` the bits that all lanes of digits share: whether all were digits
+/// is asked once, behind the last block.
 #[inline(always)]
 fn read_block(octets: &mut [u8], digits: &[u8], seen: u8x16) -> u8x16
     requires room { 16 ≤ length octets.old }
     requires digits { 32 ≤ length digits.now }
-    ensures seen { list_all is_small result
-        ≡ (list_all is_small seen && list_all is_ascii_hexdigit (take 32 digits.now)) }
+    ensures seen { list_all is_marked result
+        ≡ (list_all is_marked seen && list_all is_ascii_hexdigit (take 32 digits.now)) }
     ensures read { (j k : ℕ) → j < 16 → is_ascii_hexdigit (slice_index digits.now (2 * j)) ≡ true
         → is_ascii_hexdigit (slice_index digits.now (2 * j + 1)) ≡ true
         → pair_value (slice_index digits.now (2 * j)) (slice_index digits.now (2 * j + 1)) k
         ≡ Ok (slice_index octets.new j) }
 {
     let (high, low) = u8x16::from_slice(digits).deinterleave(u8x16::from_slice(&digits[16..]));
-    let (high, low) = (values_of(high), values_of(low));
-    ((high << u8x16::splat(4)) + low).copy_to_slice(octets);
-    seen | high | low
+    let (high, low) = (marked_values(high), marked_values(low));
+    ((high << u8x16::splat(4)) | (low & u8x16::splat(15))).copy_to_slice(octets);
+    seen & high & low
 }
 
 /// Writes the digits of 16 octets or more, in upper case.
@@ -124,11 +121,11 @@ pub(crate) fn read_blocks(octets: &mut [u8], digits: &[u8]) -> bool
     ensures { (if result then Some octets.new else None) ≡ result_ok (decode_pairs 0 digits.now) }
 {
     let last = octets.len() - LANES;
-    let mut seen = u8x16::splat(0);
+    let mut seen = u8x16::splat(0xFF);
     for block in 0..last.div_ceil(LANES) {
         let at = LANES * block;
         seen = read_block(&mut octets[at..], &digits[2 * at..], seen);
     }
     seen = read_block(&mut octets[last..], &digits[2 * last..], seen);
-    are_small(seen)
+    are_marked(seen)
 }

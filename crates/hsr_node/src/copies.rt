@@ -1,10 +1,11 @@
 //! What leaves a node by a port, and what goes up.
-ghost use Rattle.std.specs.Prelude.{◌≡◌, Option, Result, option_map};
+ghost use Rattle.std.specs.Prelude.{◌≡◌, ◌++◌, Option, Result, Some, option_map};
 ghost use Rattle.hsr_node.specs.Copies.{as_came, copy_octets, forwarded, octets_at, passed_octets, plain_in, plain_octets, ports_of, ring_octets, up_octets, written};
+ghost use Rattle.hsr_node.specs.Flow.{sent_by};
 
 use crate::event::{Event, Outcome};
 use crate::place::Place;
-use crate::sending::sent_view;
+use crate::sending::{SentView, sent_view};
 use crate::side::{Side, is_ring, path_of, side_of};
 use arrayvec::ArrayVec;
 use hsr_frame::{FrameFault, MAX_FRAME, RingPort};
@@ -12,6 +13,9 @@ use hsr_tag::{EitherView, FrameView, SeenView, Spelled, look_at};
 
 /// The octets of a frame.
 pub type FrameOctets = ArrayVec<u8, MAX_FRAME>;
+
+/// The octets of a frame in front of its payload: two addresses, a VLAN tag, an HSR tag and an EtherType at most (IEC 62439-3 clause 5.6).
+pub type FrameHead = ArrayVec<u8, 24>;
 
 /// The octets of a frame as it leaves by a ring port, with its number and the port's path (IEC 62439-3 clause 5.6).
 // Inline, since a call would pass the pieces through memory.
@@ -33,6 +37,21 @@ fn octets_at<'a>(side: Side, seq: Option<u16>, frame: &FrameView<'a>) -> Option<
         Side::Edge => Some(frame.spell()),
         Side::Ring(port) => match seq {
             Some(seq) => Some(ring_octets(port, seq, frame)),
+            None => None,
+        },
+    }
+}
+
+/// The head of a frame as `octets_at` spells it.
+// Inline, since a call would pass the octets through memory.
+#[inline(always)]
+fn head_at(side: Side, seq: Option<u16>, frame: &FrameView<'_>) -> Option<FrameHead>
+    ensures { option_map (λ head. head.items ++ frame.now.rest) result ≡ octets_at side seq frame.now }
+{
+    match side {
+        Side::Edge => Some(frame.head()),
+        Side::Ring(port) => match seq {
+            Some(seq) => Some(frame.tag(path_of(port), seq).head()),
             None => None,
         },
     }
@@ -166,6 +185,29 @@ pub fn spelled_out<'a>(
 {
     if is_left_by(outcome, port) {
         passed(place, event, outcome, port)
+    } else {
+        None
+    }
+}
+
+/// The head of a frame of the node's own, as `sent_view` tells it, as it leaves by a port, if it does: its payload follows as it is.
+// For who asks for each port in turn, since the frame is formed once then, and `Spelled` has room for a payload that no one needs.
+// Inline, since a call would pass the octets through memory.
+#[inline(always)]
+#[tactic(auto, unfolding(crate::specs::Copies::copy_octets, crate::specs::Copies::passed_octets))]
+pub fn head_out(
+    place: &Place,
+    event: &Event,
+    outcome: &Outcome,
+    sent: &SentView<'_>,
+    port: u8,
+) -> Option<FrameHead>
+    requires { sent_by place.now event.now outcome.now ≡ Some sent.now }
+    ensures { option_map (λ head. head.items ++ sent.now.frame.rest) result
+        ≡ copy_octets place.now event.now outcome.now port }
+{
+    if is_left_by(outcome, port) {
+        head_at(side_of(place, port)?, sent.seq, &sent.frame)
     } else {
         None
     }

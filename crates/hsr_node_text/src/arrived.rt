@@ -2,18 +2,10 @@
 ghost use Rattle.std.specs.Prelude.{◌≡◌, ◌++◌, option_map};
 ghost use Rattle.hsr_node.specs.Copies.{plain_octets, up_octets};
 
-use hsr_frame::TAG_LEN;
 use hsr_node::{Event, Outcome};
 use hsr_tag::{EitherView, look_at};
 
-/// How many octets stand in front of an HSR tag: two addresses, and a VLAN tag if there is one.
-const ADDRESSES: usize = 12;
-
-const ADDRESSES_AND_VLAN: usize = 16;
-
-/// The octets of the plain frame of what came, in two pieces of it: what stands in front of an HSR tag, and what stands behind it
-/// (IEC 62439-3 clause 5.6). `None` where no frame came.
-// Pieces, since to form the frame anew would copy its head some six times on its way.
+/// The octets of the plain frame of what came, in two pieces of it. `None` where no frame came.
 fn plain_pieces(octets: &[u8]) -> Option<(&[u8], &[u8])>
     ensures { option_map (λ pieces. pieces.0.now ++ pieces.1.now) result
         ≡ plain_octets octets.now }
@@ -23,13 +15,7 @@ fn plain_pieces(octets: &[u8]) -> Option<(&[u8], &[u8])>
     };
     match seen.frame {
         EitherView::Plain(_) => Some((octets, b"")),
-        EitherView::Tagged(frame) => {
-            let at = match frame.vlan {
-                None => ADDRESSES,
-                Some(_) => ADDRESSES_AND_VLAN,
-            };
-            Some((&octets[..at], &octets[at + TAG_LEN..]))
-        }
+        EitherView::Tagged(frame) => Some(frame.untagged_pieces(octets)),
     }
 }
 

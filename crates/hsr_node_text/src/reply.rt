@@ -5,11 +5,12 @@ ghost use Rattle.hex.specs.Hex.{encode_upper};
 ghost use Rattle.hsr_frame.specs.Counters.{AreWithin};
 ghost use Rattle.hsr_frame.specs.Words.{cause_text, fault_text};
 ghost use Rattle.hsr_node.specs.Copies.{up_octets};
+ghost use Rattle.hsr_node.specs.Flow.{sent_by};
 ghost use Rattle.hsr_node_text.specs.Reply.{copies_text, copy_text, counter_line, is_told_again, leaving_text, number_text, outcome_line, outcome_text, passed_text, port_text, refusal_code, refused_text, stopped_text, verdict_text, word_if};
 
 use crate::arrived::up_pieces;
 use hsr_frame::{Cause, Counters, FrameFault, NoMemory};
-use hsr_node::{Event, Outcome, Place, StepFault, spelled_out};
+use hsr_node::{Event, Outcome, Place, SentView, StepFault, head_out, sent_view, spelled_out};
 use hsr_text::{put, put_count, put_hex, put_octets};
 
 /// Puts the octets of a frame, which stand in two pieces, as hexadecimal digits.
@@ -60,6 +61,28 @@ fn put_copy(
     }
 }
 
+/// Puts the line of a port with the octets of a frame of the node's own that leave by it, if they do.
+fn put_own(
+    text: &mut Vec<u8>,
+    place: &Place,
+    event: &Event,
+    outcome: &Outcome,
+    sent: &SentView<'_>,
+    port: u8,
+) -> Result<(), NoMemory>
+    requires { sent_by place.now event.now outcome.now ≡ Some sent.now }
+    ensures { OnOk result (text.new.items
+        ≡ text.old.items ++ copy_text place.now event.now outcome.now port) }
+{
+    match head_out(place, event, outcome, sent, port) {
+        None => Ok(()),
+        Some(head) => {
+            text.push(place.letter(port))?;
+            put_leaving(text, head.as_slice(), sent.frame.payload.as_slice())
+        }
+    }
+}
+
 /// Puts the line of what goes up, if something does.
 fn put_up(text: &mut Vec<u8>, event: &Event, outcome: &Outcome) -> Result<(), NoMemory>
     ensures { OnOk result (text.new.items
@@ -85,6 +108,13 @@ fn put_copies(
         ≡ text.old.items ++ copies_text place.now event.now outcome.now) }
 {
     // No node has more than four ports.
+    if let Some(sent) = sent_view(place, event, outcome) {
+        // A frame of the node's own is formed once for all of them.
+        put_own(text, place, event, outcome, &sent, 0)?;
+        put_own(text, place, event, outcome, &sent, 1)?;
+        put_own(text, place, event, outcome, &sent, 2)?;
+        return put_own(text, place, event, outcome, &sent, 3);
+    }
     put_copy(text, place, event, outcome, 0)?;
     put_copy(text, place, event, outcome, 1)?;
     put_copy(text, place, event, outcome, 2)?;

@@ -20,6 +20,8 @@ pub enum Seen {
 ghost use Rattle.hsr_tag.specs.Seen.{IsReadOneWay, Sees, Spells, classified, seen_in, tag_fault};
 
 /// What a frame is from its type on; its rest is given by itself, so that its octets are known to be octets.
+// Inline, since a call would pass the frame through memory.
+#[inline(always)]
 fn seen_of<'a>(head: &Head<'a>, rest: &'a [u8]) -> Result<SeenView<'a>, FrameFault>
     requires raw { IsRaw head.now }
     requires same { head.now.rest ≡ rest.now }
@@ -67,6 +69,8 @@ fn seen_of<'a>(head: &Head<'a>, rest: &'a [u8]) -> Result<SeenView<'a>, FrameFau
 }
 
 /// Reads octets.
+// Inline, since a call would pass the frame through memory.
+#[inline(always)]
 fn read_seen(octets: &[u8]) -> Result<SeenView<'_>, FrameFault>
     ensures exact { result ≡ classified octets.now }
     ensures found { IfOk result (λ s. Spells octets.now s) }

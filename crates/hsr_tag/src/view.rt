@@ -1,6 +1,9 @@
 //! Frames whose payload stands where it was read.
-ghost use Rattle.std.specs.Prelude.{◌≡◌, ◌≤◌, ◌<◌, length};
+ghost use Rattle.std.specs.Prelude.{◌≡◌, ◌≤◌, ◌<◌, ◌++◌, length};
+ghost use Rattle.arrayvec.specs.ArrayVec.{array_vec_len};
 ghost use Rattle.hsr_frame.specs.Grammar.{spelling};
+ghost use Rattle.hsr_tag.specs.Seen.{Spells};
+ghost use Rattle.hsr_tag.specs.Spelled.{longest_head};
 ghost use Rattle.hsr_tag.specs.Tag.{IsPlain, IsTagged, tag_of, tagged_spelling, untag_of};
 
 use crate::frame::{Frame, Tagged, put_tag};
@@ -10,6 +13,11 @@ use crate::spelled::Spelled;
 use arrayvec::ArrayVec;
 use hsr_frame::{Mac, TAG_LEN, copied, put_head, put_u16};
 use std::marker::Model;
+
+/// How many octets stand in front of an HSR tag: two addresses, and a VLAN tag if there is one.
+const ADDRESSES: usize = 12;
+
+const ADDRESSES_AND_VLAN: usize = 16;
 
 /// A frame with no HSR tag, with a payload of at most `MAX_PAYLOAD` octets where it stands. No group sends it, and its
 /// type is that of no VLAN or HSR tag (IEEE 802.3 clause 3).
@@ -121,6 +129,21 @@ impl<'a> FrameView<'a> {
         }
     }
 
+    /// The octets in front of the payload: addresses, a VLAN tag if there is one, and the EtherType.
+    // Inline, since a call would pass the octets through memory.
+    #[inline(always)]
+    pub fn head<const CAP: usize>(&self) -> ArrayVec<u8, CAP>
+        requires { longest_head ≤ CAP }
+        ensures octets { result.items ++ self.now.rest ≡ spelling self.now }
+        ensures len { array_vec_len result ≤ longest_head }
+        ensures well_formed { IsPlain self.now }
+    {
+        let mut head = ArrayVec::new();
+        put_head(&mut head, &self.dst, &self.src, self.vlan);
+        put_u16(&mut head, self.kind);
+        head
+    }
+
     /// The octets of the frame; a payload that stands elsewhere is not copied.
     // Inline, since a call would pass the pieces through memory.
     #[inline(always)]
@@ -128,10 +151,7 @@ impl<'a> FrameView<'a> {
         ensures octets { result ≡ spelling self.now }
         ensures well_formed { IsPlain self.now }
     {
-        let mut head = ArrayVec::new();
-        put_head(&mut head, &self.dst, &self.src, self.vlan);
-        put_u16(&mut head, self.kind);
-        self.payload.behind(head)
+        self.payload.behind(self.head())
     }
 }
 
@@ -151,6 +171,21 @@ impl<'a> TaggedView<'a> {
         }
     }
 
+    /// The octets of the frame without its tag, in two pieces of the octets of the frame: what stands in front of the tag, and what stands
+    /// behind it (IEC 62439-3 clause 5.6).
+    // For who only writes them: to form the frame anew would copy its head some six times on its way.
+    #[inline(always)]
+    pub fn untagged_pieces<'b>(&self, octets: &'b [u8]) -> (&'b [u8], &'b [u8])
+        requires { Spells octets.now (Seen.Tagged self.now) }
+        ensures { result.0.now ++ result.1.now ≡ spelling (untag_of self.now) }
+    {
+        let at = match self.vlan {
+            None => ADDRESSES,
+            Some(_) => ADDRESSES_AND_VLAN,
+        };
+        (&octets[..at], &octets[at + TAG_LEN..])
+    }
+
     /// The frame, with a copy of its payload.
     pub fn to_tagged(&self) -> Tagged
         ensures { result ≡ self.now }
@@ -167,6 +202,21 @@ impl<'a> TaggedView<'a> {
         }
     }
 
+    /// The octets in front of the payload: addresses, a VLAN tag if there is one, the HSR tag and the EtherType.
+    // Inline, since a call would pass the octets through memory.
+    #[inline(always)]
+    pub fn head<const CAP: usize>(&self) -> ArrayVec<u8, CAP>
+        requires { longest_head ≤ CAP }
+        ensures octets { result.items ++ self.now.payload ≡ tagged_spelling self.now }
+        ensures len { array_vec_len result ≤ longest_head }
+        ensures well_formed { IsTagged self.now }
+    {
+        let mut head = ArrayVec::new();
+        put_head(&mut head, &self.dst, &self.src, self.vlan);
+        put_tag(&mut head, self.path, self.size, self.seq, self.kind);
+        head
+    }
+
     /// The octets of the frame; a payload that stands elsewhere is not copied.
     // Inline, since a call would pass the pieces through memory.
     #[inline(always)]
@@ -174,10 +224,7 @@ impl<'a> TaggedView<'a> {
         ensures octets { result ≡ tagged_spelling self.now }
         ensures well_formed { IsTagged self.now }
     {
-        let mut head = ArrayVec::new();
-        put_head(&mut head, &self.dst, &self.src, self.vlan);
-        put_tag(&mut head, self.path, self.size, self.seq, self.kind);
-        self.payload.behind(head)
+        self.payload.behind(self.head())
     }
 }
 

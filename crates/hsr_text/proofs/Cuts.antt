@@ -19,7 +19,7 @@ lacking s (b ∷ bs) none = go (b == s) refl (lacking s bs (λ k lt. none (suc k
     go false e more = rw (e, more) refl
 
 -- the byte at i is the first one
-first : (s : ℕ) (text : List ℕ) (i : ℕ) → i < length text → ((k : ℕ) → k < i → ¬ ((slice_index text k == s) ≡ true))
+pub first : (s : ℕ) (text : List ℕ) (i : ℕ) → i < length text → ((k : ℕ) → k < i → ¬ ((slice_index text k == s) ≡ true))
     → (slice_index text i == s) ≡ true → cut s text ≡ (take i text, Some (drop (suc i) text))
 first s [] i within before here = absurd (omega arith)
 first s (b ∷ bs) zero within before here = rw here refl

@@ -1,6 +1,9 @@
--- A cut at the first space, found by a look at one octet after the other.
-use Rattle.std.proofs.Common.{◌≡◌, ℕ, ◌+◌, ◌-◌, ◌<◌, ◌==◌, Some, Option, List, [], ◌∷◌, ◌++◌, ◌∙◌, length, take, drop, slice_index, refl, sym, ap, true, false}
+-- A cut at the first space, found by a look at one octet after the other, or at 16 at once.
+use Rattle.std.proofs.Common.{◌≡◌, ℕ, suc, ◌≤◌, arith, not, Bool, ◌+◌, ◌-◌, ◌<◌, ◌==◌, Some, Option, List, [], ◌∷◌, ◌++◌, ◌∙◌, length, take, drop, slice_index, refl, sym, ap, true, false}
 use Rattle.std.proofs.lemmas.List.{append-nil, append_assoc, drop_more, take_more, take_rest}
+use Rattle.std.proofs.lemmas.Simd.{run_in_chunk_fails, run_in_chunk_stops}
+use Rattle.std.specs.List.{prefix_len}
+use Rattle.hsr_text.proofs.Cuts.{first}
 use Rattle.hsr_text.specs.Words.{cut}
 
 -- the octets before i are before the first space
@@ -29,3 +32,17 @@ found_there text i fits space before =
     let here : cut 32 (drop i text) ≡ ([], Some rest) = cut_at text i fits ∙ rw space refl in
     before ∙ ap (λ (c : List ℕ × Option (List ℕ)). (take i text ++ c.0, c.1)) here
     ∙ ap (λ (l : List ℕ). (l, Some rest)) (append-nil (take i text)) ∙ ap (λ (l : List ℕ). (take i text, Some l)) (sym (take_rest text (i + 1)))
+
+-- it is the first of 16 octets that is one
+pub found_near : (text : List ℕ) (i : ℕ) → 16 ≤ length text → i ≡ prefix_len (λ octet. not (octet == 32)) (take 16 text) → i < 16
+    → cut 32 text ≡ (take i text, Some (take (length text - (i + 1)) (drop (i + 1) text)))
+found_near text i fits is near =
+    let next : suc i ≡ i + 1 = omega arith in
+    let here : (slice_index text (0 + i) == 32) ≡ true = run_in_chunk_stops (λ (octet : ℕ). octet == 32) text 0 16 i 0 fits is near in
+    let same : 0 + i ≡ i = omega arith in
+    first 32 text i (omega arith)
+    (λ k lt e. absurd (other (run_in_chunk_fails (λ (octet : ℕ). octet == 32) text 0 16 i 0 fits is k (omega arith) (omega arith)) e)) (rw same at here)
+    ∙ ap (λ (l : List ℕ). (take i text, Some l)) (ap (λ (n : ℕ). drop n text) next ∙ sym (take_rest text (i + 1)))
+  where
+    other : {b : Bool} → b ≡ false → b ≡ true → ⊥
+    other e f = cc

@@ -1,10 +1,10 @@
 //! Sections of lines, read.
-ghost use Rattle.std.specs.Prelude.{◌≡◌, ◌+◌, ◌≤◌, ◌<◌, ◌^◌, List, Option, ℕ, codes, length, IfOk, OnOk};
+ghost use Rattle.std.specs.Prelude.{◌≡◌, [], ◌+◌, ◌≤◌, ◌<◌, ◌^◌, List, Option, ℕ, codes, length, IfErr, IfOk, OnOk};
 ghost use Rattle.hsr_transcript.specs.Form.{only_at, section_at, version_at};
 ghost use Rattle.hsr_transcript_lines.specs.Exact.{exactly};
 ghost use Rattle.hsr_transcript.specs.Reading.{line_at, line_of, many as many_at};
 ghost use Rattle.hsr_transcript.specs.CodeReads.{Ends, Gives};
-ghost use Rattle.hsr_transcript.specs.declared.fault.ReadFault.TheVariants.{BadLine, Version};
+ghost use Rattle.hsr_transcript.specs.declared.fault.ReadFault.TheVariants.{BadLine, NoMemory, Version};
 
 use crate::fault::ReadFault;
 use crate::version::VersionLine;
@@ -16,6 +16,9 @@ use std::io::BufRead;
 
 /// The most octets of a line, without its line feed.
 const LINE_LIMIT: usize = 8192;
+
+/// For how many values room is taken by a count alone. Most sections have no more, and their values are never moved.
+const ROOM_AT_ONCE: u64 = 65536;
 
 /// How many reads are left, the number of the next line, and room for a line and for its spelling, used again for each line.
 #[derive(Drop)]
@@ -98,7 +101,18 @@ pub(crate) fn one<R: BufRead, K: LineKind>(
     }
 }
 
-/// Reads lines, each of a kind. As their number may be any that a text claims, nothing is reserved by it.
+/// Room for the values that a text claims. It may claim any count: beyond this many, room grows with the lines that are there.
+fn room_for<T>(alloc: Global, count: u64) -> Result<Vec<T>, ReadFault>
+    ensures ok { IfOk result (λ values. values.items ≡ []) }
+    ensures err { IfErr result (λ fault. fault ≡ NoMemory) }
+{
+    match Vec::with_capacity(alloc, count.min(ROOM_AT_ONCE) as usize) {
+        Ok(values) => Ok(values),
+        Err(_) => Err(ReadFault::NoMemory),
+    }
+}
+
+/// Reads lines, each of a kind.
 pub(crate) fn many<R: BufRead, K: LineKind>(
     kind: &K,
     alloc: Global,
@@ -115,8 +129,7 @@ pub(crate) fn many<R: BufRead, K: LineKind>(
     ensures numbered { IfOk result (λ v. progress.new.number
         ≡ progress.old.number + length v.items) }
 {
-    // Room grows with the lines that are there: a text may claim any count.
-    let mut values = Vec::new(alloc);
+    let mut values = room_for(alloc, count)?;
     let mut left = count;
     while left > 0 {
         match one(kind, alloc, reader, progress) {

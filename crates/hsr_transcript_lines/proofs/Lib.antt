@@ -14,3 +14,4 @@ pub mod Roles
 pub mod Exact
 pub mod UpperDigits
 pub mod Moments
+pub mod Letters

@@ -2,6 +2,7 @@
 //!
 //! Its modules, in the order in which to read them:
 //! - `words`: the words of lines, written
+//! - `upper`: whether a word's letters are in upper case
 //! - `parsing`: the words of lines, read
 //! - `lines`: kinds of line, and sections of lines
 //! - `places`: the lines of nodes, links and the main worker's order
@@ -14,6 +15,7 @@ mod parsing;
 mod places;
 mod records;
 mod rows;
+mod upper;
 mod words;
 
 pub use lines::{LineKind, put_head, put_section, read_line};

@@ -1,23 +1,11 @@
 //! The words of lines, read.
 ghost use Rattle.std.specs.Prelude.{◌≡◌, ◌<◌, ◌++◌, ◌^◌, ℕ, length, option_map};
 ghost use Rattle.hsr_transcript_lines.specs.Parsed.{read_about, below, read_cause, read_fate, read_fault, has_letter, has_octet, read_port, read_ports, read_probe, read_seq, tail_of, read_vlan};
-ghost use Rattle.hsr_transcript_lines.specs.Exact.{is_upper};
 
 use hsr_frame::{About, Cause, FrameFault, Mac};
 use hsr_link::Fate;
 use hsr_node::{Place, Probe};
 use hsr_text::{decimal, hex_pair, split_at};
-
-/// Whether no octet is a lower-case letter. The loop has no branches, so that it is one of vectors.
-pub(crate) fn is_upper(word: &[u8]) -> bool
-    ensures { result ≡ is_upper word.now }
-{
-    let mut all = true;
-    for b in word {
-        all &= *b < b'a';
-    }
-    all
-}
 
 /// A number of 16 bits.
 pub(crate) fn read_number(word: &[u8]) -> Option<u16>

@@ -5,9 +5,10 @@ ghost use Rattle.hsr_transcript_lines.specs.Spelled.{entry_text, event_text, out
 
 use crate::lines::LineKind;
 use crate::parsing::{
-    has_octet, is_upper, read_about, read_cause, read_number, read_octet, read_port, read_ports,
-    read_probe, read_seq, read_vlan, tail_of,
+    has_octet, read_about, read_cause, read_number, read_octet, read_port, read_ports, read_probe,
+    read_seq, read_vlan, tail_of,
 };
+use crate::upper::is_upper;
 use crate::words::{
     about_fits, carried_fits, mac_fits, put_about, put_cause, put_hex_u16, put_next_mac,
     put_number, put_octets, put_probe, put_seq, put_vlan, put_word,

@@ -3,7 +3,8 @@ ghost use Rattle.std.specs.Prelude.{◌≡◌, ◌++◌, OnOk, IfOk, true};
 ghost use Rattle.hsr_transcript_lines.specs.Spelled.{row_text};
 
 use crate::lines::LineKind;
-use crate::parsing::{is_upper, read_fate, read_probe};
+use crate::parsing::{read_fate, read_probe};
+use crate::upper::is_upper;
 use crate::words::{carried_fits, put_octets, put_probe, put_word};
 use hsr_frame::NoMemory;
 use hsr_link::{Dir, Row};

@@ -1,6 +1,6 @@
 use Rattle.std.proofs.Common.{refl, sym}
 use Rattle.std.proofs.lemmas.Simd.{pick_l_whole}
-use Rattle.hsr_digits.proofs.blocks.values_of.Goals as goal
+use Rattle.hsr_digits.proofs.blocks.marked_values.Goals as goal
 
 pub returns : goal.returns
 returns c =
