@@ -51,12 +51,15 @@ abbrev pub low : List ℕ → List ℕ
 low octets = map (λ o. slice_index upper_digits (o % 16)) octets
 
 -- looked at for a list of 16 that is written out
-pub woven : (octets : List ℕ) → length octets ≡ 16
-    → pick_l 0 (high octets ++ low octets) first_places ++ pick_l 0 (high octets ++ low octets) second_places ≡ encode_upper octets
+pub woven_front : (octets : List ℕ) → length octets ≡ 16 → pick_l 0 (high octets ++ low octets) first_places ≡ encode_upper (take 8 octets)
 unfolding encode_with
-woven octets long =
-    subst (λ (l : List ℕ). pick_l 0 (high l ++ low l) first_places ++ pick_l 0 (high l ++ low l) second_places ≡ encode_upper l)
-    (pick_l_whole 0 octets 16 long) refl
+woven_front octets long =
+    subst (λ (l : List ℕ). pick_l 0 (high l ++ low l) first_places ≡ encode_upper (take 8 l)) (pick_l_whole 0 octets 16 long) refl
+
+pub woven_back : (octets : List ℕ) → length octets ≡ 16 → pick_l 0 (high octets ++ low octets) second_places ≡ encode_upper (drop 8 octets)
+unfolding encode_with
+woven_back octets long =
+    subst (λ (l : List ℕ). pick_l 0 (high l ++ low l) second_places ≡ encode_upper (drop 8 l)) (pick_l_whole 0 octets 16 long) refl
 
 -- two vectors that are stored one behind the other
 pub stored : (digits first second : List ℕ) → 32 ≤ length digits → length first ≡ 16 → length second ≡ 16

@@ -12,6 +12,10 @@ use Rattle.hex.proofs.Pairs.{cons_byte, decode_pairs-ok_pair}
 use Rattle.hex.specs.declared.error.FromHexError.{FromHexError}
 use Rattle.hsr_digits.proofs.HexDigits.{front_of, parts, split_all, unread}
 use borrow.Rule.Slice.PartMut.{post_of, put_mid}
+use lib.Lanes.{pick_l, put_chunk}
+use Rattle.std.proofs.lemmas.Simd.{length-put_chunk, pick_l_whole, put_chunk_is}
+use Rattle.std.specs.List.{range_with_len}
+use Rattle.hsr_digits.proofs.Lanes.{stored}
 
 -- ---- a list of which the rest is replaced
 
@@ -61,6 +65,43 @@ last_block octets digits new last whole is within fits long same written before 
     = sym (take-take (2 * last) (2 * whole) digits (omega arith)) ∙ ap (take (2 * last)) before ∙ front_of octets last whole within (omega arith) in
     let all = one_block_more octets digits new last (length octets) (omega arith) (omega arith) long written front in
     sym (take_all (2 * length octets) _ (omega (arith, kept))) ∙ all ∙ ap encode_upper (take_all (length octets) octets (omega arith))
+
+-- what is written for a number of octets
+digits_long : (n : ℕ) (octets digits : List ℕ) → length octets ≡ n → digits ≡ encode_upper octets → length digits ≡ 2 * n
+digits_long n octets digits many is = ap length is ∙ length-encode_with upper_digits octets ∙ ap (λ (k : ℕ). 2 * k) many
+
+-- the halves of a block, one behind the other
+pub both_halves : (octets digits first second : List ℕ) → length octets ≡ 16 → 32 ≤ length digits
+    → first ≡ encode_upper (take 8 octets) → second ≡ encode_upper (drop 8 octets)
+    → put_chunk 16 (put_chunk 0 digits first) second ≡ encode_upper octets ++ drop 32 digits
+both_halves octets digits first second long room front back =
+    let one : length first ≡ 16 = digits_long 8 (take 8 octets) first (length-take-le 8 octets (omega (arith, long))) front in
+    let two : length second ≡ 16 = digits_long 8 (drop 8 octets) second (length-drop 8 octets ∙ omega (arith, long)) back in
+    stored digits first second room one two
+    ∙ ap (λ (l : List ℕ). l ++ drop 32 digits)
+    (rw (front, back) (sym (parts upper_digits (take 8 octets) (drop 8 octets)) ∙ ap encode_upper (take-append-drop 8 octets)))
+
+-- the first 8 octets and the last 8, which may lie over one another
+pub first_and_last : (octets digits first second : List ℕ) (last : ℕ) → last + 8 ≡ length octets → last ≤ 8 → length digits ≡ 2 * length octets
+    → first ≡ encode_upper (take 8 octets) → second ≡ encode_upper (drop last octets)
+    → put_chunk (2 * last) (put_chunk 0 digits first) second ≡ encode_upper octets
+first_and_last octets digits first second last is within long front back =
+    let one : length first ≡ 16 = digits_long 8 (take 8 octets) first (length-take-le 8 octets (omega (arith, is))) front in
+    let two : length second ≡ 16 = digits_long 8 (drop last octets) second (length-drop last octets ∙ omega (arith, is)) back in
+    let begun = put_chunk_is 0 digits first (omega (arith, one, is)) in
+    let kept = length-put_chunk 0 digits first in
+    let none : drop (length second) (drop (2 * last) (put_chunk 0 digits first)) ≡ []
+    = drop-drop (length second) (2 * last) (put_chunk 0 digits first) ∙ drop_all (2 * last + length second) (put_chunk 0 digits first) (omega (arith, two, kept, is)) in
+    let before : take (2 * last) (put_chunk 0 digits first) ≡ encode_upper (take last octets)
+    = ap (take (2 * last)) begun ∙ sym (take-take (2 * last) 16 _ (omega arith))
+    ∙ ap (take (2 * last)) (take_at first _ 16 one ∙ front) ∙ front_of octets last 8 within (omega (arith, is)) in
+    put_chunk_is (2 * last) (put_chunk 0 digits first) second (omega (arith, two, kept, is))
+    ∙ rw (none, append-nil second, before, back)
+    (sym (parts upper_digits (take last octets) (drop last octets)) ∙ ap encode_upper (take-append-drop last octets))
+
+-- two halves that are put together are the first and the last of them
+pub joined : (first second : List ℕ) → length first ≡ 8 → length second ≡ 8 → pick_l 0 (first ++ second) (range_with_len 0 16) ≡ first ++ second
+joined first second one two = pick_l_whole 0 (first ++ second) 16 (length-append first second ∙ omega (arith, one, two))
 
 -- ---- reading
 

@@ -13,6 +13,9 @@ use std::simd::prelude::*;
 /// How many octets a vector holds.
 pub(crate) const LANES: usize = 16;
 
+/// How many octets half a vector holds.
+pub(crate) const HALF: usize = LANES / 2;
+
 /// The sixteen digits, in upper case.
 #[inline(always)]
 fn table() -> u8x16
@@ -46,6 +49,15 @@ fn low_digits(octets: u8x16) -> u8x16
     digits_of(octets & u8x16::splat(15))
 }
 
+/// The digits of octets: those of the first eight, and those of the last eight.
+#[inline(always)]
+fn halves_of_digits(octets: u8x16) -> (u8x16, u8x16)
+    ensures front { result.0 ≡ encode_upper (take 8 octets) }
+    ensures back { result.1 ≡ encode_upper (drop 8 octets) }
+{
+    high_digits(octets).interleave(low_digits(octets))
+}
+
 /// Writes the 32 digits of the first 16 octets over the first 32 of `digits`.
 #[inline(always)]
 fn write_block(digits: &mut [u8], octets: &[u8])
@@ -53,10 +65,33 @@ fn write_block(digits: &mut [u8], octets: &[u8])
     requires octets { 16 ≤ length octets.now }
     ensures { digits.new ≡ encode_upper (take 16 octets.now) ++ drop 32 digits.old }
 {
-    let values = u8x16::from_slice(octets);
-    let (first, second) = high_digits(values).interleave(low_digits(values));
+    let (first, second) = halves_of_digits(u8x16::from_slice(octets));
     first.copy_to_slice(digits);
     second.copy_to_slice(&mut digits[16..]);
+}
+
+/// Two half vectors as one, so that the digits of both are found at once.
+#[inline(always)]
+fn one_behind_the_other(front: u8x8, back: u8x8) -> u8x16
+    ensures { result ≡ front ++ back }
+{
+    front.shuffle(back, [0, 1, 2, 3, 4, 5, 6, 7, 8, 9, 10, 11, 12, 13, 14, 15])
+}
+
+/// Writes the digits of 8 to 16 octets, in upper case.
+// The first octets of a frame's own, and of what goes up, are 12 or 14: one by one they take four times as long.
+pub(crate) fn write_halves(digits: &mut [u8], octets: &[u8])
+    requires room { length digits.old ≡ 2 * length octets.now }
+    requires long { 8 ≤ length octets.now }
+    requires short { length octets.now ≤ 16 }
+    ensures { digits.new ≡ encode_upper octets.now }
+{
+    // The second half ends with the octets, and may lie over a part of the first.
+    let last = octets.len() - HALF;
+    let both = one_behind_the_other(u8x8::from_slice(octets), u8x8::from_slice(&octets[last..]));
+    let (first, second) = halves_of_digits(both);
+    first.copy_to_slice(digits);
+    second.copy_to_slice(&mut digits[2 * last..]);
 }
 
 /// Each character as a lane: 240 and what it is worth where it is a digit of either case, less where it is none.

@@ -3,7 +3,7 @@ ghost use Rattle.std.specs.Prelude.{◌≡◌, ◌*◌, if◌then◌else◌, Som
 ghost use Rattle.std.specs.Result.{result_ok};
 ghost use Rattle.hex.specs.Hex.{decode_pairs, encode_upper};
 
-use crate::blocks::{LANES, read_blocks, write_blocks};
+use crate::blocks::{HALF, LANES, read_blocks, write_blocks, write_halves};
 use crate::pairs::{each_is_digit, fill_octets, write_each};
 
 /// Fills a slice with the octets that pairs of hexadecimal digits of either case spell. False where a character is no digit: then the
@@ -29,6 +29,8 @@ pub fn write_hex(digits: &mut [u8], octets: &[u8])
 {
     if octets.len() >= LANES {
         write_blocks(digits, octets);
+    } else if octets.len() >= HALF {
+        write_halves(digits, octets);
     } else {
         write_each(digits, octets);
     }

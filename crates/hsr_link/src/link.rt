@@ -20,6 +20,8 @@ pub struct Link {
     forth: HeapCircularBuffer<Waiting>,
     back: HeapCircularBuffer<Waiting>,
     rows: Vec<Row>,
+    // How many rows are expected in all: no part of what a clause sees.
+    expected: usize,
 }
 
 impl Model for Link {
@@ -51,7 +53,15 @@ impl Link {
             forth,
             back,
             rows: Vec::new(alloc),
+            expected: 0,
         })
+    }
+
+    /// Tells how many rows are expected in all, so that they aren't moved as they grow. Nothing else depends on it.
+    pub fn expect(&mut self, rows: usize)
+        ensures { self.new ≡ self.old }
+    {
+        self.expected = rows;
     }
 
     /// Puts a copy, and tells what became of it: Queued, LostDown on a cut link, or LostOverrun where its queue is
@@ -96,7 +106,7 @@ impl Link {
                     injected,
                     fate,
                 };
-                enter(&mut self.forth, &mut self.rows, row)
+                enter(&mut self.forth, &mut self.rows, self.expected, row)
             }
             Dir::Back => {
                 let fate = put_fate(self.is_cut, &self.back);
@@ -106,7 +116,7 @@ impl Link {
                     injected,
                     fate,
                 };
-                enter(&mut self.back, &mut self.rows, row)
+                enter(&mut self.back, &mut self.rows, self.expected, row)
             }
         }
     }
@@ -166,6 +176,7 @@ impl Link {
             forth: _,
             back: _,
             rows,
+            expected: _,
         } = self;
         rows
     }
@@ -206,6 +217,7 @@ impl Link {
             forth,
             back,
             rows,
+            expected: _,
         } = self;
         let queues = Queues {
             capacity,
@@ -234,6 +246,8 @@ impl Link {
             forth,
             back,
             rows,
+            // A link that was taken apart was mostly done with: what is put on it yet isn't known.
+            expected: 0,
         }
     }
 }

@@ -53,12 +53,13 @@ fn queue_up(
     Ok(())
 }
 
-/// Adds a row, whose copy waits in the queue of its direction if it is queued.
+/// Adds a row, whose copy waits in the queue of its direction if it is queued; `expected` is how many rows are expected in all.
 #[inline(always)]
 #[tactic(auto, using(crate::proofs::Waiting::waiting_push))]
 pub(crate) fn enter(
     queue: &mut HeapCircularBuffer<Waiting>,
     rows: &mut Vec<Row>,
+    expected: usize,
     row: Row,
 ) -> Result<Fate, (Carried, NoMemory)>
     requires holds { queue.old.items ≡ waiting row.dir 0 rows.old.items }
@@ -70,7 +71,7 @@ pub(crate) fn enter(
         × (e.0 ≡ row.carried)) }
 {
     // All that may be refused comes before the first change.
-    if make_room(rows).is_err() {
+    if make_room(rows, expected).is_err() {
         return Err((row.carried, NoMemory));
     }
     if queue_up(queue, rows.len(), &row).is_err() {

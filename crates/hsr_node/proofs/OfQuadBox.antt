@@ -1,5 +1,5 @@
 -- A QuadBox answers as its record does.
-use Rattle.std.proofs.Common.{◌≡◌, ℕ, ◌+◌, ◌==◌, ◌^◌, ◌&&◌, not, Bool, true, false, if◌then◌else◌, List, [], ◌∷◌, ◌++◌, length, Option, Some, None, Result, Ok, Err, refl, sym, ap, subst, ◌∙◌, arith, add-zero}
+use Rattle.std.proofs.Common.{◌≡◌, ℕ, ◌==◌, ◌^◌, ◌&&◌, not, Bool, true, false, if◌then◌else◌, List, [], ◌∷◌, ◌++◌, length, Option, Some, None, Result, Ok, Err, refl, sym, ap, subst, ◌∙◌, arith, add-zero}
 use Rattle.std.specs.Prelude.{max, option_map}
 use Rattle.std.specs.List.{cons_option}
 use Rattle.hsr_frame.specs.Counters.{counted}
@@ -10,7 +10,6 @@ use Rattle.hsr_frame.specs.declared.egress.Wants.{Wants}
 use Rattle.hsr_frame.specs.declared.fault.FrameFault.{FrameFault}
 use Rattle.hsr_frame.specs.declared.fault.Spent.{Spent as IsSpent}
 use Rattle.hsr_frame.specs.declared.node.Cause.{Cause}
-use Rattle.hsr_frame.specs.declared.node.Cause.TheVariants as cause
 use Rattle.hsr_tag.specs.Seen.{classified}
 use Rattle.hsr_tag.specs.declared.seen.Seen.{Seen}
 use Rattle.hsr_tag.specs.declared.seen.Seen.TheVariants.{Plain, Tagged}

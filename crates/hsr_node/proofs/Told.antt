@@ -1,5 +1,5 @@
 -- What is shown of each kind of node: it answers as its record does, and goes on to be told by it.
-use Rattle.std.proofs.Common.{◌≡◌, ℕ, ◌+◌, Bool, true, false, cond, List, [], ◌∷◌, ◌++◌, max, Option, Some, None, Result, Ok, Err, refl, ap₂, sym, ◌∙◌, append-nil, if◌then◌else◌, ap, subst, reverse}
+use Rattle.std.proofs.Common.{◌≡◌, ℕ, Bool, true, false, cond, List, [], ◌∷◌, ◌++◌, max, Option, Some, None, Result, Ok, Err, refl, ap₂, sym, ◌∙◌, append-nil, if◌then◌else◌, ap, subst, reverse}
 use Rattle.std.specs.List.{cons_option}
 use Rattle.hsr_frame.specs.declared.node.RingPort.{RingPort}
 use Rattle.hsr_supervision.specs.Payload.{Fields as Said}

@@ -1,9 +1,10 @@
 //! What leaves a node by a port, and what goes up.
-ghost use Rattle.std.specs.Prelude.{◌≡◌, ◌++◌, Option, Result, Some, option_map};
+ghost use Rattle.std.specs.Prelude.{◌≡◌, ◌++◌, IfSome, Option, Result, Some, option_map};
 ghost use Rattle.hsr_node.specs.Copies.{as_came, copy_octets, forwarded, octets_at, passed_octets, plain_in, plain_octets, ports_of, ring_octets, up_octets, written};
 ghost use Rattle.hsr_node.specs.Flow.{sent_by};
 
 use crate::event::{Event, Outcome};
+use crate::octets::Octets;
 use crate::place::Place;
 use crate::sending::{SentView, sent_view};
 use crate::side::{Side, is_ring, path_of, side_of};
@@ -185,6 +186,36 @@ pub fn spelled_out<'a>(
 {
     if is_left_by(outcome, port) {
         passed(place, event, outcome, port)
+    } else {
+        None
+    }
+}
+
+/// The octets that leave a place by a port as they came, in the room in which they stand: those of an arrival that goes on from ring to
+/// ring (IEC 62439-3 clause 5.3). `None` where nothing leaves there, and where a frame is formed for it: `spelled_out` tells those octets.
+// For who asks first: most copies go on as they came, and `Spelled` has room for a head that no one needs then.
+#[tactic(auto, unfolding(crate::specs::Copies::copy_octets, crate::specs::Copies::passed_octets))]
+pub fn going_on<'a>(
+    place: &Place,
+    event: &'a Event,
+    outcome: &Outcome,
+    port: u8,
+) -> Option<&'a Octets>
+    ensures { IfSome result (λ octets. copy_octets place.now event.now outcome.now port ≡ Some octets.now) }
+{
+    let Event::Arrive { port: x, carried } = event else {
+        return None;
+    };
+    let Outcome::Judged { .. } = outcome else {
+        return None;
+    };
+    let is_within = carried.octets.as_slice().len() <= MAX_FRAME;
+    if is_left_by(outcome, port)
+        && is_within
+        && is_ring(side_of(place, *x)?)
+        && is_ring(side_of(place, port)?)
+    {
+        Some(&carried.octets)
     } else {
         None
     }

@@ -1,9 +1,8 @@
 //! What happens to a node, and what it answers.
-ghost use Rattle.std.specs.Prelude.{◌≡◌, ◌↔◌, IfOk, IfSome, IsTrue};
+ghost use Rattle.std.specs.Prelude.{◌≡◌, ◌↔◌, IfOk, IsTrue};
 
 use crate::octets::Octets;
 use hsr_frame::{About, Cause, Mac, NoMemory, SendFault};
-use hsr_tag::Spelled;
 
 /// Names the entry of a send: the number of its node, and its place in that node's record.
 #[derive(Clone, Copy, PartialEq, Eq)]
@@ -45,7 +44,7 @@ pub enum Event {
 }
 
 impl Event {
-    ghost use Rattle.std.specs.Prelude.{◌≡◌, IfSome};
+    ghost use Rattle.std.specs.Prelude.{◌≡◌};
     ghost use Rattle.hsr_node.specs.Record.{probe_handled};
 
     /// The send that the copies of an entry with this event are of: that of the copy that came, else the entry's own, which
@@ -56,22 +55,6 @@ impl Event {
         match self {
             Event::Arrive { port: _, carried } => carried.probe,
             _ => Some(here),
-        }
-    }
-
-    /// The octets that came, where they are these, in the room in which they stand. `None` where none came, where they are
-    /// others, and where they can't be shared.
-    #[inline(always)]
-    pub fn came_as(&self, spelled: &Spelled<'_>) -> Option<Octets>
-        ensures { IfSome result (λ octets. octets ≡ spelled.now) }
-    {
-        let Event::Arrive { port: _, carried } = self else {
-            return None;
-        };
-        if spelled.is_same(carried.octets.as_slice()) {
-            carried.octets.clone().ok()
-        } else {
-            None
         }
     }
 }

@@ -28,6 +28,8 @@ pub struct Kept<const C: usize> {
     place: Place,
     node: Node<C>,
     entries: Vec<Entry>,
+    // How many entries are expected in all: no part of what a clause sees.
+    expected: usize,
 }
 
 impl<const C: usize> Model for Kept<C> {
@@ -61,7 +63,15 @@ impl<const C: usize> Kept<C> {
             place,
             node,
             entries: Vec::new(alloc),
+            expected: 0,
         })
+    }
+
+    /// Tells how many entries are expected in all, so that its record isn't moved as it grows. Nothing else depends on it.
+    pub fn expect(&mut self, entries: usize)
+        ensures { self.new ≡ self.old }
+    {
+        self.expected = entries;
     }
 
     /// Lets an event happen that a worker brings, at a moment in microseconds, and keeps one more entry: the worker, the
@@ -86,7 +96,7 @@ impl<const C: usize> Kept<C> {
         ensures refused { IfErr result (λ e. (self.new ≡ self.old) × (e.0 ≡ event)) }
     {
         // Room first: after the node's step nothing may fail.
-        if make_room(&mut self.entries).is_err() {
+        if make_room(&mut self.entries, self.expected).is_err() {
             return Err((event, StepFault::NoMemory));
         }
         let outcome = match self.node.apply(at, &event) {

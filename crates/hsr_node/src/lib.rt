@@ -46,8 +46,8 @@ mod units;
 
 pub use cell::NodeCell;
 pub use copies::{
-    FrameHead, FrameOctets, copy_out, head_out, is_left_by, plain_octets, ring_octets, spelled_out,
-    spelled_up, up_out,
+    FrameHead, FrameOctets, copy_out, going_on, head_out, is_left_by, plain_octets, ring_octets,
+    spelled_out, spelled_up, up_out,
 };
 pub use entry::{Entry, Receipt};
 pub use event::{Carried, Event, Outcome, Probe, StepFault};

@@ -8,10 +8,8 @@ use Rattle.hsr_node.specs.declared.event.Outcome.{Outcome}
 use Rattle.hsr_node.specs.declared.event.StepFault.{StepFault}
 use Rattle.hsr_node.specs.declared.node.Node.{Node}
 use Rattle.hsr_node.specs.declared.place.Place.{Place}
-use Rattle.hsr_node_text.specs.Request.{request_of}
-use Rattle.hsr_node_text.specs.Reply.{answer_of, answer_to, outcome_text, refusal_code, refused_text, replied, reply}
+use Rattle.hsr_node_text.specs.Reply.{answer_to, outcome_text, refusal_code, refused_text, replied, reply}
 use Rattle.hsr_node_text.specs.declared.request.Request.{Request}
-use Rattle.hsr_node_text.specs.declared.request.Setting.{Setting}
 
 -- a text that is told, with the node behind it
 told : {M : Type 0} (node : M) (text : List ℕ) (said : Option (List ℕ)) (result : Result (Unit {0}) WordFault) → Gives (λ (_ : Unit {0}). text) result said
@@ -37,17 +35,15 @@ pub refused : (capacity : ℕ) (place : Place) (old new : Node capacity) (r : Re
     → Gives {Y = List ℕ × Node capacity} (λ (_ : Unit {0}). (text, new)) result (answer_to capacity place old (Some r))
 refused capacity place old new r text result fault step h = stepped capacity place old new r text result (Err fault) step h
 
--- a line that asks for something is answered so
-pub asked : (capacity : ℕ) (setting : Setting) (old new : Node capacity) (line text : List ℕ) (r : Request) (result : Result (Unit {0}) WordFault)
-    → request_of setting line ≡ Some r → Gives {Y = List ℕ × Node capacity} (λ (_ : Unit {0}). (text, new)) result (answer_to capacity setting.place old (Some r))
-    → Gives {Y = List ℕ × Node capacity} (λ (_ : Unit {0}). (text, new)) result (answer_of capacity setting old line)
-unfolding answer_of
-asked capacity setting old new line text r result is h =
-    subst (λ (o : Option Request). Gives {Y = List ℕ × Node capacity} (λ (_ : Unit {0}). (text, new)) result (answer_to capacity setting.place old o)) (sym is) h
+-- what asks for something is answered so
+pub asked : (capacity : ℕ) (place : Place) (old new : Node capacity) (text : List ℕ) (r : Request) (result : Result (Unit {0}) WordFault) (said : Option Request)
+    → Gives (λ (q : Request). q) (Ok r) said → Gives {Y = List ℕ × Node capacity} (λ (_ : Unit {0}). (text, new)) result (answer_to capacity place old (Some r))
+    → Gives {Y = List ℕ × Node capacity} (λ (_ : Unit {0}). (text, new)) result (answer_to capacity place old said)
+asked capacity place old new text r result said is h =
+    subst (λ (o : Option Request). Gives {Y = List ℕ × Node capacity} (λ (_ : Unit {0}). (text, new)) result (answer_to capacity place old o)) (sym is) h
 
--- one that asks for nothing is bad
-pub unasked : (capacity : ℕ) (setting : Setting) (old new : Node capacity) (line text : List ℕ) (fault : WordFault)
-    → Gives (λ (r : Request). r) (Err fault) (request_of setting line) → Gives {Y = List ℕ × Node capacity} (λ (_ : Unit {0}). (text, new)) (Err fault) (answer_of capacity setting old line)
-unfolding answer_of
-unasked capacity setting old new line text Bad h = ap (answer_to capacity setting.place old) h
-unasked capacity setting old new line text Memory h = tt
+-- what asks for nothing is bad
+pub unasked : (capacity : ℕ) (place : Place) (old new : Node capacity) (text : List ℕ) (fault : WordFault) (said : Option Request)
+    → Gives (λ (q : Request). q) (Err fault) said → Gives {Y = List ℕ × Node capacity} (λ (_ : Unit {0}). (text, new)) (Err fault) (answer_to capacity place old said)
+unasked capacity place old new text Bad said h = ap (answer_to capacity place old) h
+unasked capacity place old new text Memory said h = tt

@@ -1,6 +1,7 @@
 //! What a node answers to a line.
-ghost use Rattle.std.specs.Prelude.{Some, option_map};
+ghost use Rattle.std.specs.Prelude.{Option, Some, option_map};
 ghost use Rattle.hsr_text.specs.Words.{Gives};
+ghost use Rattle.hsr_node_text.specs.declared.request.Request.{Request as Asked};
 ghost use Rattle.hsr_node_text.specs.Reply.{answer_of, answer_to, outcome_text, refusal_code, refused_text};
 
 use crate::reply::{put_outcome, put_refused, refusal_code};
@@ -59,6 +60,24 @@ fn answer_request<const C: usize>(
     }
 }
 
+/// Lets what was read of a line happen to a node of this place, and makes a text the lines that answer it; a line that wasn't read stays
+/// without answer, for the same reason.
+#[tactic(auto, using(crate::proofs::Answering::asked, crate::proofs::Answering::unasked))]
+fn answer_read<const C: usize>(
+    place: &Place,
+    node: &mut Node<C>,
+    read: &Result<Request, WordFault>,
+    text: &mut Vec<u8>,
+) -> Result<(), WordFault>
+    ensures { (said : Option Asked) → Gives (λ r. r) read.now said
+        → Gives (λ _. (text.new.items, node.new)) result (answer_to C place.now node.old said) }
+{
+    match read {
+        Ok(request) => answer_request(place, node, request, text),
+        Err(fault) => Err(*fault),
+    }
+}
+
 /// Takes the room that octets have for themselves, if they have such.
 fn take_back(room: &mut Vec<u8>, octets: Octets) {
     if let Some(own) = octets.into_room() {
@@ -66,9 +85,12 @@ fn take_back(room: &mut Vec<u8>, octets: Octets) {
     }
 }
 
-/// Takes the room that an event's octets have for themselves back, if they have such.
-fn put_back(room: &mut Vec<u8>, event: Event) {
-    match event {
+/// Takes the room that the octets of a request have for themselves back, if they have such.
+fn put_back(room: &mut Vec<u8>, read: Result<Request, WordFault>) {
+    let Ok(request) = read else {
+        return;
+    };
+    match request.event {
         Event::Send {
             from: _,
             dst: _,
@@ -85,6 +107,7 @@ fn put_back(room: &mut Vec<u8>, event: Event) {
 /// What the text held goes, and the room for the line's octets is used anew: the same for each line, it mostly takes no new memory.
 /// `Bad` exactly where the line is bad, or is none of this kind of node (RULES, Lines of `node`). `Memory` if allocation fails: the node may
 /// have done what the line asks for, and the text has a front of the answer at most.
+#[tactic(auto, unfolding(crate::specs::Reply::answer_of))]
 pub fn answer_line<const C: usize>(
     alloc: Global,
     setting: &Setting,
@@ -96,12 +119,9 @@ pub fn answer_line<const C: usize>(
     ensures { Gives (λ _. (text.new.items, node.new)) result
         (answer_of C setting.now node.old line.now) }
 {
-    match read_request(mem::replace(room, Vec::new(alloc)), setting, line) {
-        Ok(request) => {
-            let answered = answer_request(&setting.place, node, &request, text);
-            put_back(room, request.event);
-            answered
-        }
-        Err(fault) => Err(fault),
-    }
+    let read = read_request(mem::replace(room, Vec::new(alloc)), setting, line);
+    // Answered where it was read: a request that is moved as soon as it is written waits for memory.
+    let answered = answer_read(&setting.place, node, &read, text);
+    put_back(room, read);
+    answered
 }

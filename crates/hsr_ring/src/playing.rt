@@ -50,6 +50,8 @@ pub fn play<const C: usize>(
     ensures ok { OnOk result (Plays C orders.now world.old world.new) }
     ensures err { IfErr result (λ e. Halts C orders.now e.0 world.old world.new e.1) }
 {
+    // A send reaches a node of its ring twice, and mostly a drain follows it: about as many entries a node as there are orders.
+    world.expect(orders.len());
     for (place, order) in orders.iter().enumerate() {
         match obey(world, order) {
             // A `match` and no `?`: the index of the order is told with its fault.

@@ -14,15 +14,15 @@ ghost use Rattle.hsr_node.specs.Kept.{Record};
 use crate::closing::{Open, Rest, closed_of};
 use crate::entering::enter;
 use crate::pending::{Move, Pending};
-use crate::starting::new_nodes;
+use crate::starting::{expect_entries, new_nodes};
 use hsr_finished_run::{CheckFault, Closed, Planned};
 use hsr_frame::{About, Counters, Mac};
 use hsr_link::{Dir, Row};
 use hsr_node::{Carried, Entry, Event, Kept, Octets};
 use hsr_topology::{End, Topology, port_worker};
 use hsr_world_links::{
-    Port, Span, Spot, change_hand, clear, cut_at, inject_at, mend_at, new_ports, new_spans,
-    new_touching, port_fault, port_of, put_at_spot, take_at, touching_of,
+    Port, Span, Spot, change_hand, clear, cut_at, expect_rows, inject_at, mend_at, new_ports,
+    new_spans, new_touching, port_fault, port_of, put_at_spot, take_at, touching_of,
 };
 use hsr_world_steps::{INJECT_LIMIT, Step, WorldFault};
 use std::alloc::Global;
@@ -83,6 +83,14 @@ impl<const C: usize> Running<C> {
     ghost use Rattle.hsr_world_laws.specs.World.{by_main, cleared, entered, planned, tried};
     ghost use Rattle.hsr_world_steps.specs.declared.step.Step.TheVariants.{Age, Clock, Cut, Inject, Judge, Mend, Put, Send, Supervise, Take};
     ghost use Rattle.hsr_world_steps.specs.declared.step.WorldFault.TheVariants.{NoMemory};
+
+    /// Tells each node and link how many entries and rows are expected of it in all. Nothing else depends on it.
+    pub(crate) fn expect(&mut self, entries: usize)
+        ensures { self.new ≡ self.old }
+    {
+        expect_entries(&mut self.nodes, entries);
+        expect_rows(&mut self.spans, entries);
+    }
 
     /// Sets the moment, earlier ones too.
     #[tactic(auto, unfolding(hsr_world_laws::specs::World::tried))]

@@ -25,3 +25,12 @@ pub(crate) fn new_nodes<const C: usize>(
     }
     Ok(nodes)
 }
+
+/// Tells each node how many entries are expected of it in all. Nothing else depends on it.
+pub(crate) fn expect_entries<const C: usize>(nodes: &mut [Kept<C>], entries: usize)
+    ensures { nodes.new ≡ nodes.old }
+{
+    for i in 0..nodes.len() {
+        nodes[i].expect(entries);
+    }
+}

@@ -75,6 +75,14 @@ impl<const C: usize> World<C> {
         })
     }
 
+    /// Tells the world how many entries are expected of each node in all, so that records aren't moved as they grow. Nothing else depends
+    /// on it.
+    pub fn expect(&mut self, entries: usize)
+        ensures { self.new ≡ self.old }
+    {
+        self.running.expect(entries);
+    }
+
     /// Does a step, or refuses it for the first reason that applies; a refusal changes nothing.
     /// The reasons are tried in the order of `WorldFault`; `NoMemory` comes if allocation fails.
     pub fn step(&mut self, step: &Step) -> Result<(), WorldFault>

@@ -1,12 +1,13 @@
 //! Copies that go onto links.
-ghost use Rattle.std.specs.Prelude.{◌≡◌};
+ghost use Rattle.std.specs.Prelude.{◌≡◌, IfOk};
+ghost use Rattle.hsr_node.specs.Copies.{copy_octets};
 
 use crate::cells::{Cells, Seat};
 use crate::flight::Flight;
 use crate::wire::Wire;
 use hsr_frame::NoMemory;
 use hsr_link::{Dir, Fate};
-use hsr_node::{Carried, Octets, Place, Probe, Receipt, spelled_out};
+use hsr_node::{Carried, Entry, Octets, Place, Probe, Receipt, going_on, spelled_out};
 use std::alloc::Global;
 use std::sync::Wait;
 
@@ -61,6 +62,25 @@ pub(crate) fn inject<const C: usize>(
     landed(&cells.flight, link.inject(rt, dir, carried))
 }
 
+/// The octets that leave a place by a port after an entry, if some do.
+fn octets_out(
+    alloc: Global,
+    place: &Place,
+    entry: &Entry,
+    port: u8,
+) -> Result<Option<Octets>, NoMemory>
+    ensures { IfOk result (λ octets. octets ≡ copy_octets place.now entry.now.event entry.now.outcome port) }
+{
+    // What goes on as it came stands where it came, so that the copies of a send share their room.
+    if let Some(octets) = going_on(place, &entry.event, &entry.outcome, port) {
+        return Ok(Some(octets.clone()?));
+    }
+    let Some(spelled) = spelled_out(place, &entry.event, &entry.outcome, port) else {
+        return Ok(None);
+    };
+    Ok(Some(Octets::from_spelled(alloc, &spelled)?))
+}
+
 /// Puts on its link what leaves a node by a port.
 fn put_out<const C: usize>(
     rt: &impl Wait,
@@ -72,13 +92,8 @@ fn put_out<const C: usize>(
     wire: Wire,
 ) -> Result<(), NoMemory> {
     let entry = &receipt.entry;
-    let Some(spelled) = spelled_out(place, &entry.event, &entry.outcome, port) else {
+    let Some(octets) = octets_out(alloc, place, entry, port)? else {
         return Ok(());
-    };
-    // What goes on as it came stands where it came, so that the copies of a send share their room.
-    let octets = match entry.event.came_as(&spelled) {
-        Some(octets) => octets,
-        None => Octets::from_spelled(alloc, &spelled)?,
     };
     let carried = Carried {
         probe: entry.event.probe(Probe {

@@ -1,5 +1,5 @@
 -- What a new entry gives to the lanes of the code, and the room that it needs.
-use Rattle.std.specs.Prelude.{ℕ, ◌==◌, ◌≡◌, ◌<◌, ◌≤◌, true, List, [], ◌++◌, if◌then◌else◌, option_map, option_to_list, vec_capacity, length, slice_index_or}
+use Rattle.std.specs.Prelude.{ℕ, ◌==◌, ◌≡◌, ◌<◌, ◌≤◌, true, Option, List, [], ◌∷◌, ◌++◌, if◌then◌else◌, option_map, option_to_list, vec_capacity, length, slice_index_or}
 use Rattle.std.specs.VecDeque.{deque_len, deque_capacity}
 use Rattle.hsr_frame.specs.Layout.{max_frame}
 use Rattle.hsr_topology.specs.declared.end.End.{End}
@@ -26,6 +26,10 @@ given place receipt lane =
     then option_to_list (option_map (λ octets. record { probe = probe_handled (record { node = receipt.node; place = receipt.place }) receipt.entry.event; octets = octets })
     (copy_octets place receipt.entry.event receipt.entry.outcome lane.from.port))
     else []
+
+-- a copy behind those of an outbox
+abbrev pub with_copy : Option Probe → List ℕ → Lane → Lane
+with_copy probe octets lane = record lane { outbox = lane.outbox ++ record { probe = probe; octets = octets } ∷ [] }
 
 abbrev pub given_lane : Place → Receipt → Lane → Lane
 given_lane place receipt lane = record lane { outbox = lane.outbox ++ given place receipt lane }

@@ -1,10 +1,13 @@
 //! One direction of a link, with what its ports keep.
-ghost use Rattle.std.specs.Prelude.{◌≡◌, ◌≤◌, length, vec_capacity, OnOk};
-ghost use Rattle.hsr_world_links.specs.Giving.{IsReady, given_lane, receipt_of};
+ghost use Rattle.std.specs.Prelude.{◌≡◌, ◌<◌, ◌≤◌, IfSome, OnOk, Some, length, vec_capacity};
+ghost use Rattle.std.specs.VecDeque.{deque_capacity, deque_len};
+ghost use Rattle.hsr_node.specs.Copies.{copy_octets};
+ghost use Rattle.hsr_node.specs.Record.{probe_handled};
+ghost use Rattle.hsr_world_links.specs.Giving.{IsReady, given_lane, receipt_of, with_copy};
 ghost use Rattle.hsr_world_links.specs.Views.{lane_view};
 
 use hsr_frame::{MAX_FRAME, NoMemory};
-use hsr_node::{Carried, Entry, Event, Octets, Place, Probe, is_left_by, spelled_out};
+use hsr_node::{Carried, Entry, Octets, Place, Probe, going_on, is_left_by, spelled_out};
 use hsr_tag::Spelled;
 use hsr_topology::End;
 use std::alloc::Global;
@@ -48,20 +51,36 @@ fn fitted(alloc: Global, room: &mut Vec<u8>, copy: &Spelled<'_>) -> Octets
     }
 }
 
-/// The octets of a copy that leaves in an event: those that came, where it goes on as they came.
-fn leaving(alloc: Global, room: &mut Vec<u8>, event: &Event, copy: &Spelled<'_>) -> Octets
-    requires { length copy.now ≤ vec_capacity room.old }
-    ensures { result ≡ copy.now }
+/// The copy of an entry that has these octets joins the outbox of a lane; `here` names the entry.
+// Inline, since a call would pass the octets through memory.
+#[inline(always)]
+fn put_last(lane: &mut Lane, here: Probe, entry: &Entry, octets: Octets)
+    requires { deque_len lane.old.outbox < deque_capacity lane.old.outbox }
+    ensures { lane_view lane.new ≡ with_copy (probe_handled here entry.now.event) octets (lane_view lane.old) }
 {
-    // Most copies go on from ring to ring, and so all copies of a send in a ring stand in the same room.
-    match event.came_as(copy) {
-        Some(octets) => octets,
-        None => fitted(alloc, room, copy),
-    }
+    let carried = Carried {
+        probe: entry.event.probe(here),
+        octets,
+    };
+    // `prepare_lane` made room for one more.
+    let Ok(()) = lane.outbox.push_back(carried) else {
+        unreachable!()
+    };
+}
+
+/// The octets of a copy that leaves by this port as it came, in the room in which they stand; `None` where they can't be shared, too.
+// Inline, since a call would pass the octets through memory.
+#[inline(always)]
+fn shared(place: &Place, entry: &Entry, port: u8) -> Option<Octets>
+    ensures { IfSome result (λ octets. copy_octets place.now entry.now.event entry.now.outcome port ≡ Some octets) }
+{
+    going_on(place, &entry.event, &entry.outcome, port)?
+        .clone()
+        .ok()
 }
 
 /// The copy that leaves its node by a lane, if one does, joins its outbox; `here` names the entry.
-// A call of its own, so that the lanes by which nothing leaves don't make room for a copy's pieces.
+// A call of its own, so that the lanes by which nothing leaves, or what came, don't make room for a copy's pieces.
 #[inline(never)]
 #[tactic(auto, unfolding(hsr_node::specs::Copies::copy_octets))]
 fn form_copy(alloc: Global, lane: &mut Lane, place: &Place, here: Probe, entry: &Entry)
@@ -73,14 +92,8 @@ fn form_copy(alloc: Global, lane: &mut Lane, place: &Place, here: Probe, entry: 
     let Some(copy) = spelled_out(place, &entry.event, &entry.outcome, lane.from.port) else {
         return;
     };
-    let carried = Carried {
-        probe: entry.event.probe(here),
-        octets: leaving(alloc, &mut lane.room, &entry.event, &copy),
-    };
-    // `prepare_lane` made room for one more.
-    let Ok(()) = lane.outbox.push_back(carried) else {
-        unreachable!()
-    };
+    let octets = fitted(alloc, &mut lane.room, &copy);
+    put_last(lane, here, entry, octets);
 }
 
 /// The copy that leaves its node by a lane joins its outbox; `here` names the entry.
@@ -91,8 +104,10 @@ fn add_copy(alloc: Global, lane: &mut Lane, place: &Place, here: Probe, entry: &
     ensures { lane_view lane.new ≡ given_lane place.now (receipt_of here entry.now)
         (lane_view lane.old) }
 {
-    // Asked first: of an arrival that goes on, nothing leaves by the port of the other lane, and nothing is formed for it.
-    if is_left_by(&entry.outcome, lane.from.port) {
+    // Asked first: most copies go on from ring to ring, and so all copies of a send in a ring stand in the same room.
+    if let Some(octets) = shared(place, entry, lane.from.port) {
+        put_last(lane, here, entry, octets);
+    } else if is_left_by(&entry.outcome, lane.from.port) {
         form_copy(alloc, lane, place, here, entry);
     }
 }

@@ -32,5 +32,5 @@ pub use parting::{Bare, Parted, join, part};
 pub use port::{Port, new_ports, port_fault, port_in, port_number, port_of};
 pub use span::{Span, cut_at, inject_at, mend_at, take_at};
 pub use spot::{Spot, put_at_spot};
-pub use starting::new_spans;
+pub use starting::{expect_rows, new_spans};
 pub use touching::{new_touching, touching_of};

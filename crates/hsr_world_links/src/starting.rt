@@ -51,3 +51,12 @@ pub fn new_spans(alloc: Global, capacity: usize, links: &[[End; 2]]) -> Result<V
     }
     Ok(spans)
 }
+
+/// Tells each link how many rows are expected on it in all. Nothing else depends on it.
+pub fn expect_rows(spans: &mut [Span], rows: usize)
+    ensures { map span_view spans.new ≡ map span_view spans.old }
+{
+    for i in 0..spans.len() {
+        spans[i].link.expect(rows);
+    }
+}
