@@ -4,4 +4,3 @@ pub mod Telling
 mod Opening
 mod Runs
 mod Putting
-mod Standing

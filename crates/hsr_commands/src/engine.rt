@@ -16,7 +16,7 @@ use hsr_node::{Node, Place};
 use hsr_node_text::{Setting, answer_line, put_counters};
 use hsr_options::{NodeOptions, NodeRole};
 use hsr_table_size::at_size;
-use hsr_text::{BUFFER_SIZE, Front, WordFault, granted_reads, next_line, split_at};
+use hsr_text::{BUFFER_SIZE, Front, WordFault, granted_reads, line_there, next_line};
 use std::alloc::Global;
 use std::io::{BufRead, BufReader, Read, Write};
 
@@ -116,19 +116,6 @@ fn answer_front<W: Write, const C: usize>(
     }
 }
 
-/// The line that a buffer begins with, where it is whole there, is no longer than a line may be, and is paid for by the reads that are
-/// left.
-fn line_there(buffer: &[u8], reads: u64) -> Option<&[u8]>
-    ensures first { IfSome result (λ line. (rest : List ℕ) × (cut 10 buffer.now ≡ (line.now, Some rest))) }
-    ensures short { IfSome result (λ line. length line.now ≤ LINE_LIMIT) }
-    ensures paid { IfSome result (λ line. length line.now < reads) }
-{
-    match split_at(buffer, b'\n') {
-        (line, Some(_)) if line.len() <= LINE_LIMIT && (line.len() as u64) < reads => Some(line),
-        _ => None,
-    }
-}
-
 /// Gathers the next line, however the reader cuts it into pieces, and answers it, and tells whether more may follow.
 fn gathered_turn<R: Read, W: Write, const C: usize>(
     alloc: Global,
@@ -166,7 +153,7 @@ fn turn<R: Read, W: Write, const C: usize>(
     ensures bounded { reads.new ≤ reads.old }
 {
     // Most lines stand whole in the buffer, and are answered where they stand.
-    match line_there(reader.buffer(), *reads) {
+    match line_there(reader.buffer(), LINE_LIMIT, *reads) {
         None => gathered_turn(alloc, setting, node, number, reader, reads, writer, room),
         Some(line) => {
             let taken = line.len() + 1;

@@ -65,7 +65,10 @@ fn played<const C: usize>(
         return Err(Fault::Memory);
     };
     match play(&mut world, scenario.steps.as_slice()) {
-        Ok(()) => Ok(Reached { world, topology }),
+        Ok(()) => {
+            leave(scenario.steps);
+            Ok(Reached { world, topology })
+        }
         Err((step, fault)) => {
             notes.of_order(alloc, octets, step, &fault, &world);
             Err(Fault::of_step(step, fault))

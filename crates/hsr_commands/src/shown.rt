@@ -30,11 +30,11 @@ pub struct ShownRun {
     pub tables: Option<RunTables>,
 }
 
-/// Leaves a run that was shown as it is.
-// The program ends with what is shown, and all its memory goes back at once: to free each copy of the run by itself first would only take
-// time.
-pub(crate) fn leave<const C: usize>(closed: Closed<C>) {
-    mem::forget(closed);
+/// Leaves what isn't needed any more as it is: a run that was shown, and orders that were done.
+// The program ends with what is shown, and all its memory goes back at once: to free each copy and each order by itself first would only
+// take time.
+pub(crate) fn leave<T: Drop>(used: T) {
+    mem::forget(used);
 }
 
 /// The transcript of a finished run.

@@ -79,7 +79,7 @@ fn one_behind_the_other(front: u8x8, back: u8x8) -> u8x16
 }
 
 /// Writes the digits of 8 to 16 octets, in upper case.
-// The first octets of a frame's own, and of what goes up, are 12 or 14: one by one they take four times as long.
+// The first octets of a frame's own, and of what goes up, are 12 or 14: one by one they take four times as many instructions.
 pub(crate) fn write_halves(digits: &mut [u8], octets: &[u8])
     requires room { length digits.old ≡ 2 * length octets.now }
     requires long { 8 ≤ length octets.now }

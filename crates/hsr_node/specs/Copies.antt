@@ -154,6 +154,24 @@ unfoldable pub copy_octets : Place → Event → Outcome → ℕ → Option (Lis
 copy_octets place event outcome port =
     if unwrap_or (slice_get (ports_of outcome) port) false then passed_octets place event outcome port else None
 
+-- those among them that go on from ring to ring as they came
+abbrev pub unchanged : Option Side → Option Side → List ℕ → Option (List ℕ)
+unchanged None to octets = None
+unchanged (Some from) None octets = None
+unchanged (Some from) (Some to) octets = if is_ring from && is_ring to then as_came octets else None
+
+abbrev pub arrived_unchanged : Place → ℕ → List ℕ → Outcome → ℕ → Option (List ℕ)
+arrived_unchanged place x octets (Judged up ports seq cause) port = unchanged (side_of place x) (side_of place port) octets
+arrived_unchanged place x octets _ port = None
+
+abbrev pub passed_unchanged : Place → Event → Outcome → ℕ → Option (List ℕ)
+passed_unchanged place (Arrive x copy) outcome port = arrived_unchanged place x copy.octets outcome port
+passed_unchanged place _ outcome port = None
+
+unfoldable pub unchanged_octets : Place → Event → Outcome → ℕ → Option (List ℕ)
+unchanged_octets place event outcome port =
+    if unwrap_or (slice_get (ports_of outcome) port) false then passed_unchanged place event outcome port else None
+
 -- what goes up is the plain frame
 abbrev pub raised : List ℕ → Outcome → Option (List ℕ)
 raised octets (Judged up ports seq cause) = if up then plain_octets octets else None

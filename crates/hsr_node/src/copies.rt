@@ -1,6 +1,6 @@
 //! What leaves a node by a port, and what goes up.
 ghost use Rattle.std.specs.Prelude.{◌≡◌, ◌++◌, IfSome, Option, Result, Some, option_map};
-ghost use Rattle.hsr_node.specs.Copies.{as_came, copy_octets, forwarded, octets_at, passed_octets, plain_in, plain_octets, ports_of, ring_octets, up_octets, written};
+ghost use Rattle.hsr_node.specs.Copies.{as_came, copy_octets, forwarded, octets_at, passed_octets, plain_in, plain_octets, ports_of, ring_octets, unchanged_octets, up_octets, written};
 ghost use Rattle.hsr_node.specs.Flow.{sent_by};
 
 use crate::event::{Event, Outcome};
@@ -194,14 +194,15 @@ pub fn spelled_out<'a>(
 /// The octets that leave a place by a port as they came, in the room in which they stand: those of an arrival that goes on from ring to
 /// ring (IEC 62439-3 clause 5.3). `None` where nothing leaves there, and where a frame is formed for it: `spelled_out` tells those octets.
 // For who asks first: most copies go on as they came, and `Spelled` has room for a head that no one needs then.
-#[tactic(auto, unfolding(crate::specs::Copies::copy_octets, crate::specs::Copies::passed_octets))]
+#[tactic(auto, unfolding(crate::specs::Copies::copy_octets, crate::specs::Copies::passed_octets, crate::specs::Copies::unchanged_octets))]
 pub fn going_on<'a>(
     place: &Place,
     event: &'a Event,
     outcome: &Outcome,
     port: u8,
 ) -> Option<&'a Octets>
-    ensures { IfSome result (λ octets. copy_octets place.now event.now outcome.now port ≡ Some octets.now) }
+    ensures exact { option_map (λ octets. octets.now) result ≡ unchanged_octets place.now event.now outcome.now port }
+    ensures leaves { IfSome result (λ octets. copy_octets place.now event.now outcome.now port ≡ Some octets.now) }
 {
     let Event::Arrive { port: x, carried } = event else {
         return None;

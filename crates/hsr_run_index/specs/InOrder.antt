@@ -1,5 +1,5 @@
 -- The copies that a record and rows tell of, the first first.
-use Rattle.std.specs.Prelude.{ℕ, ◌+◌, List, [], ◌∷◌, filter_map, Option, option_map, IsPermutation}
+use Rattle.std.specs.Prelude.{ℕ, ◌+◌, ◌≡◌, ⊤, List, [], ◌∷◌, filter_map, Option, Some, None, option_map, IsPermutation}
 use Rattle.std.specs.List.{cons_option}
 use Rattle.hsr_node.specs.Copies.{copy_octets}
 use Rattle.hsr_node.specs.Flow.{arrivals, copy_at, passes}
@@ -12,6 +12,8 @@ use Rattle.hsr_link.specs.declared.row.Dir.{Dir}
 use Rattle.hsr_link.specs.declared.row.Row.{Row}
 use Rattle.hsr_run_index.specs.declared.agreement.Passage.{Passage}
 use Rattle.hsr_run_index.specs.declared.agreement.Passage.TheVariants.{Put, Taken}
+use Rattle.hsr_run_index.specs.declared.passing.Seen.{Seen}
+use Rattle.hsr_run_index.specs.declared.passing.Seen.TheVariants.{Nothing, This, Other}
 
 -- the copy of a row that was put, or taken
 abbrev pub copy_of_passage : Passage → Dir → Row → Option Carried
@@ -27,6 +29,12 @@ abbrev pub passed_by : Owner → ℕ → ℕ → Entry → Option Carried
 passed_by owner port n x =
     option_map (λ octets. record { probe = probe_handled (record { node = owner.number; place = n }) x.event; octets = octets })
     (copy_octets owner.place x.event x.outcome port)
+
+-- what an entry passed is nothing, or this copy; of another copy no more is asked
+abbrev pub IsSeenAs : Carried → Option Carried → Seen → Type 0
+IsSeenAs copy passed Nothing = passed ≡ None
+IsSeenAs copy passed This = passed ≡ Some copy
+IsSeenAs copy passed Other = ⊤
 
 -- those that the entries from the n-th on did
 abbrev pub passed : Owner → ℕ → ℕ → List Entry → List Carried

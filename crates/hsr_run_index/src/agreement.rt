@@ -4,10 +4,10 @@ ghost use Rattle.std.specs.List.{cons_option};
 ghost use Rattle.hsr_run_index.specs.InOrder.{PutsFit, TakensFit, came, came_by, copies_of_passage, copy_of_passage, passed, passed_by};
 
 use crate::counts::is_as_often;
+use crate::passing::{Seen, look_at_pass};
 use hsr_frame::NoMemory;
 use hsr_link::{Dir, Fate, Row};
-use hsr_node::{Carried, Entry, Event, Kept, Octets, Place, Probe, spelled_out};
-use hsr_tag::Spelled;
+use hsr_node::{Carried, Entry, Event, Kept, Octets, Place, Probe, is_left_by, spelled_out};
 use std::alloc::Global;
 
 /// Which passage of a copy a row tells of.
@@ -52,14 +52,8 @@ fn next_of_passage<'a>(
     None
 }
 
-/// Whether a copy is of this send and has these octets.
-fn is_copy(copy: &Carried, probe: Option<Probe>, octets: &Spelled<'_>) -> bool
-    ensures { IsTrue result ↔ (copy.now ≡ record { probe = probe; octets = octets.now }) }
-{
-    copy.probe == probe && octets.is_same(copy.octets.as_slice())
-}
-
 /// The rows that are left where the first that was put is the copy that an entry passed, if it passed one.
+#[tactic(auto, unfolding(hsr_node::specs::Copies::copy_octets))]
 fn after_pass<'a>(
     number: usize,
     place: &Place,
@@ -73,22 +67,15 @@ fn after_pass<'a>(
         ≡ cons_option (passed_by (record { number = number; place = place.now }) port at entry.now)
         (copies_of_passage Put dir left.now)) }
 {
-    // Spelled where it stands, so that comparing needs no memory.
-    let Some(octets) = spelled_out(place, &entry.event, &entry.outcome, port) else {
+    // Asked first: many entries let nothing out by a port.
+    if !is_left_by(&entry.outcome, port) {
         return Some(rows);
-    };
+    }
     let (copy, left) = next_of_passage(Passage::Put, dir, rows)?;
-    if is_copy(
-        copy,
-        entry.event.probe(Probe {
-            node: number,
-            place: at,
-        }),
-        &octets,
-    ) {
-        Some(left)
-    } else {
-        None
+    match look_at_pass(number, place, port, at, entry, copy) {
+        Seen::Nothing => Some(rows),
+        Seen::This => Some(left),
+        Seen::Other => None,
     }
 }
 

@@ -32,7 +32,8 @@ fn mark_place(starts: &[usize], many: usize, send: Option<Probe>) -> Option<usiz
 fn meet(x: Exits, y: Exits) -> bool
     ensures { result ≡ meet x y }
 {
-    (x.up && y.up) || (x.a && y.a) || (x.b && y.b) || (x.c && y.c) || (x.d && y.d)
+    // `&` and `|`, which don't branch: each entry of a run comes by here.
+    (x.up & y.up) | (x.a & y.a) | (x.b & y.b) | (x.c & y.c) | (x.d & y.d)
 }
 
 /// Whether an entry notes a send where it was noted, or numbers it after it was noted somewhere.
@@ -41,7 +42,7 @@ fn is_odd(mark: Exits, noted: Exits, is_numbered: bool) -> bool
 {
     if is_numbered {
         // A number comes first: with one nothing may have been noted, wherever it is.
-        return mark.up || mark.a || mark.b || mark.c || mark.d;
+        return mark.up | mark.a | mark.b | mark.c | mark.d;
     }
     meet(mark, noted)
 }
@@ -50,12 +51,13 @@ fn is_odd(mark: Exits, noted: Exits, is_numbered: bool) -> bool
 fn joined(x: Exits, y: Exits) -> Exits
     ensures { result ≡ joined x y }
 {
+    // No branches, as in `meet`.
     Exits {
-        up: x.up || y.up,
-        a: x.a || y.a,
-        b: x.b || y.b,
-        c: x.c || y.c,
-        d: x.d || y.d,
+        up: x.up | y.up,
+        a: x.a | y.a,
+        b: x.b | y.b,
+        c: x.c | y.c,
+        d: x.d | y.d,
     }
 }
 

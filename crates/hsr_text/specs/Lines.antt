@@ -1,5 +1,5 @@
 -- A text cut into its lines.
-use Rattle.std.specs.Prelude.{◌≡◌, ℕ, ◌+◌, ◌<◌, ◌≤◌, ◌==◌, List, [], ◌∷◌, ◌++◌, length, take, drop, Option, Some, None, if◌then◌else◌, IfSome}
+use Rattle.std.specs.Prelude.{◌≡◌, ℕ, ◌+◌, ◌<◌, ◌≤◌, ◌==◌, ◌&&◌, nat_le, nat_lt, List, [], ◌∷◌, ◌++◌, length, take, drop, Option, Some, None, if◌then◌else◌, IfSome}
 use Rattle.std.specs.Io.KnownBytes.{Consumes, IsAtEnd}
 use Rattle.hsr_text.specs.Words.{cut}
 use Rattle.hsr_text.specs.declared.lines.Front.{Front}
@@ -46,6 +46,14 @@ Continues text left line = IfSome text (λ xs. (ys : List ℕ) × (left ≡ Some
 -- what `next_line` gives, where bytes are known
 abbrev pub ReadsFront : ℕ → Option (List ℕ) → Option (List ℕ) → List ℕ → Front → Type 0
 ReadsFront most old new line front = IfSome old (λ text. (left : List ℕ) × (new ≡ Some left) × Reads most text left line front)
+
+-- the line that a buffer begins with, where it is whole there, has at most `most` bytes, and costs no more than the reads that are left
+abbrev pub there_of : ℕ → ℕ → List ℕ × Option (List ℕ) → Option (List ℕ)
+there_of most reads (line, None) = None
+there_of most reads (line, Some rest) = if nat_le (length line) most && nat_lt (length line) reads then Some line else None
+
+abbrev pub line_there : List ℕ → ℕ → ℕ → Option (List ℕ)
+line_there buffer most reads = there_of most reads (cut 10 buffer)
 
 -- Where bytes are known, each byte that was taken cost a read.
 abbrev pub Paid : Option (List ℕ) → Option (List ℕ) → ℕ → ℕ → Type 0

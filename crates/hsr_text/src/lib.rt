@@ -20,7 +20,7 @@ mod whole;
 mod words;
 
 pub use command_line::{arguments, write_line};
-pub use lines::{Front, READ_LIMIT, ReaderFault, next_line};
+pub use lines::{Front, READ_LIMIT, ReaderFault, line_there, next_line};
 pub use putting::{put, put_number, put_octets};
 pub use short_words::short_word;
 pub use time_unit::TimeUnit;

@@ -1,7 +1,8 @@
 //! Lines of a reader, with a bound on the length of a line and on the number of reads.
-ghost use Rattle.std.specs.Prelude.{◌≡◌, ◌+◌, ◌<◌, ◌≤◌, [], length, take, Some, IfOk, OnOk};
+ghost use Rattle.std.specs.Prelude.{◌≡◌, ◌+◌, ◌<◌, ◌≤◌, [], length, take, List, Some, IfOk, IfSome, OnOk, option_map, ℕ};
 ghost use Rattle.hsr_text.specs.declared.lines.Front.TheVariants.{Rest};
-ghost use Rattle.hsr_text.specs.Lines.{Advances, Fills, Paid, ReadsFront};
+ghost use Rattle.hsr_text.specs.Lines.{Advances, Fills, Paid, ReadsFront, line_there};
+ghost use Rattle.hsr_text.specs.Words.{cut};
 
 use crate::words::split_at;
 use arrayvec::ArrayVec;
@@ -119,4 +120,18 @@ pub fn next_line<R: BufRead, const N: usize>(
         }
     }
     Err(ReaderFault)
+}
+
+/// The line that a buffer begins with, where it is whole there, has at most `most` octets, and is paid for by the reads that are left.
+/// For who reads a line where it stands; `next_line` gathers the others.
+pub fn line_there(buffer: &[u8], most: usize, reads: u64) -> Option<&[u8]>
+    ensures exact { option_map (λ s. s.now) result ≡ line_there buffer.now most reads }
+    ensures first { IfSome result (λ line. (rest : List ℕ) × (cut 10 buffer.now ≡ (line.now, Some rest))) }
+    ensures short { IfSome result (λ line. length line.now ≤ most) }
+    ensures paid { IfSome result (λ line. length line.now < reads) }
+{
+    match split_at(buffer, b'\n') {
+        (line, Some(_)) if line.len() <= most && (line.len() as u64) < reads => Some(line),
+        _ => None,
+    }
 }

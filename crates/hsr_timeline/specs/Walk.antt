@@ -2,19 +2,11 @@
 --     IsNextPass   from a place on, the first entry that passed a copy stands at another, and passed this copy
 --     IsStep       where the entry of the next row stands, and from where the walk goes on
 --     IsWalked     the walk so far
-use Rattle.std.specs.Prelude.{ℕ, ◌+◌, ◌<◌, ◌≤◌, ◌≡◌, ⊤, List, length, map, take, count_by, slice_index_or, Option, Some, None}
+use Rattle.std.specs.Prelude.{ℕ, ◌+◌, ◌<◌, ◌≤◌, ◌≡◌, List, length, map, take, count_by, slice_index_or, Option, Some, None}
 use Rattle.std.specs.List.{range_with_len}
 use Rattle.hsr_node.specs.declared.event.Carried.{Carried}
-use Rattle.hsr_timeline.specs.declared.walk.Seen.{Seen}
-use Rattle.hsr_timeline.specs.declared.walk.Seen.TheVariants.{Nothing, This, Other}
 use Rattle.hsr_timeline.specs.declared.walk.Step.{Step}
 use Rattle.hsr_timeline.specs.Partners.{is_at, partner}
-
--- what an entry passed is nothing, or this copy; of another copy no more is asked
-abbrev pub IsSeenAs : Carried → Option Carried → Seen → Type 0
-IsSeenAs copy passed Nothing = passed ≡ None
-IsSeenAs copy passed This = passed ≡ Some copy
-IsSeenAs copy passed Other = ⊤
 
 pub record IsNextPass (xs : List (Option Carried)) (from : ℕ) (copy : Carried) (at : ℕ) : Type 0 where
   pub behind : from ≤ at

@@ -2,66 +2,27 @@
 //!
 //! In a run of one thread the rows of a link stand in the order in which entries put them. So the next entry that passed a copy is that
 //! of the next row that was put, and neither a map nor copies formed anew are needed. Where the order is another, the walk says so.
-ghost use Rattle.std.specs.Prelude.{◌≡◌, ◌<◌, if◌then◌else◌, length, map, option_map, IfOk, IfSome};
-ghost use Rattle.hsr_run_index.specs.InOrder.{copy_of_passage, passed_by};
+ghost use Rattle.std.specs.Prelude.{◌≡◌, ◌<◌, length, map, option_map, IfOk, IfSome};
+ghost use Rattle.hsr_run_index.specs.InOrder.{copy_of_passage};
 ghost use Rattle.hsr_run_index.specs.declared.agreement.Passage.TheVariants.{Put};
 ghost use Rattle.hsr_timeline.specs.Hops.{passed_at, passed_from};
 ghost use Rattle.hsr_timeline.specs.Partners.{partners};
-ghost use Rattle.hsr_timeline.specs.Walk.{IsNextPass, IsSeenAs, IsStep};
-ghost use Rattle.hsr_timeline.specs.declared.walk.Seen.TheVariants.{Other, This};
+ghost use Rattle.hsr_timeline.specs.Walk.{IsNextPass, IsStep};
 
 use crate::partners::copy_of_passage;
 use hsr_finished_run::Closed;
 use hsr_frame::NoMemory;
 use hsr_link::{Dir, Row};
-use hsr_node::{Carried, Entry, Place, Probe, going_on, spelled_out};
-use hsr_run_index::Passage;
+use hsr_node::{Carried, Entry, Place};
+use hsr_run_index::{Passage, Seen, look_at_pass};
 use hsr_topology::End;
 use std::alloc::Global;
-
-/// What an entry passed by a port, held against a copy.
-#[derive(Clone, Copy, PartialEq, Eq)]
-pub(crate) enum Seen {
-    /// It passed nothing.
-    Nothing,
-    /// It passed this copy.
-    This,
-    /// It passed another copy.
-    Other,
-}
 
 /// The place of the entry that passed the copy of a row, if one did; and from where the walk goes on.
 #[derive(Clone, Copy, PartialEq, Eq)]
 pub(crate) struct Step {
     place: Option<usize>,
     next: usize,
-}
-
-/// A copy was passed, this one or another.
-fn seen_as(is_this: bool) -> Seen
-    ensures { result ≡ (if is_this then This else Other) }
-{
-    if is_this { Seen::This } else { Seen::Other }
-}
-
-/// What an entry passed by a port, held against a copy.
-fn look(number: usize, place: &Place, port: u8, at: usize, entry: &Entry, copy: &Carried) -> Seen
-    ensures { IsSeenAs copy.now
-        (passed_by (record { number = number; place = place.now }) port at entry.now) result }
-{
-    let probe = entry.event.probe(Probe {
-        node: number,
-        place: at,
-    });
-    // Asked first: most copies go on as they came, and nothing is formed for them.
-    if let Some(octets) = going_on(place, &entry.event, &entry.outcome, port) {
-        return seen_as(copy.probe == probe && copy.octets == *octets);
-    }
-    // Spelled where it stands, so that comparing needs no memory.
-    let Some(octets) = spelled_out(place, &entry.event, &entry.outcome, port) else {
-        return Seen::Nothing;
-    };
-    seen_as(copy.probe == probe && octets.is_same(copy.octets.as_slice()))
 }
 
 /// The place of the first entry from a place on that passed a copy by a port, if it passed this one.
@@ -78,7 +39,7 @@ fn next_pass(
         (record { number = number; place = place.now }) port 0 entries.now) from copy.now at) }
 {
     for at in from..entries.len() {
-        match look(number, place, port, at, &entries[at], copy) {
+        match look_at_pass(number, place, port, at, &entries[at], copy) {
             Seen::Nothing => {}
             Seen::This => return Some(at),
             Seen::Other => return None,

@@ -1,5 +1,5 @@
 -- No entry of a legal record is unlike what its past answers.
-use Rattle.std.proofs.Common.{◌≡◌, ℕ, ◌+◌, ◌<◌, List, [], ◌∷◌, length, take, reverse, get_or, Option, Some, None, Ok, ◌∙◌, subst, subst₂, arith, refl}
+use Rattle.std.proofs.Common.{◌≡◌, ℕ, ◌<◌, List, [], ◌∷◌, length, take, reverse, get_or, Option, Some, None, Ok, ◌∙◌, subst, subst₂, arith, refl}
 use Rattle.std.specs.List.{cons_option}
 use Rattle.std.proofs.lemmas.List.{get_or_default}
 use Rattle.hsr_node.specs.Flow.{arrivals, copy_at}

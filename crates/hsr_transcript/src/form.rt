@@ -4,6 +4,7 @@
 //! proof of its own. Faults are handed on by `match` and not by `?`, which gets no proof where a clause says which
 //! fault comes first.
 ghost use Rattle.std.specs.Prelude.{◌≡◌, ◌+◌, ◌≤◌, ◌<◌, ◌^◌, ℕ, List, IfOk, length};
+ghost use Rattle.std.specs.Io.Buffered.{reader_remaining};
 ghost use Rattle.hsr_transcript.specs.Form.{carried_on, end_on, form_of, links_on, main_on, nodes_on, records_at, records_on, rows_at, said_at, table_on};
 ghost use Rattle.hsr_transcript_lines.specs.Lines.{head, line_count};
 ghost use Rattle.hsr_transcript.specs.Items.{entries_of, rows_of};
@@ -20,19 +21,19 @@ use hsr_text::{BUFFER_SIZE, TimeUnit};
 use hsr_topology::End;
 use hsr_transcript_lines::{EntryLine, LinkLine, NumberLine, PlaceLine, RowLine, put_number};
 use std::alloc::Global;
-use std::io::{BufRead, BufReader, Read};
+use std::io::{BufReader, Read};
 
 /// Reads the record of each node, with moments in this unit.
-fn records<R: BufRead>(
+fn records<R: Read>(
     unit: TimeUnit,
     nodes: &[Place],
     alloc: Global,
-    reader: &mut R,
+    reader: &mut BufReader<R>,
     progress: &mut Progress,
 ) -> Result<Vec<Vec<Entry>>, ReadFault>
     requires { progress.old.number + progress.old.reads < 2 ^ 64 }
-    ensures given { Gives entries_of (R.remaining reader.old)
-        (R.remaining reader.new) progress.old.number progress.new.number result
+    ensures given { Gives entries_of (reader_remaining R.remaining reader.old)
+        (reader_remaining R.remaining reader.new) progress.old.number progress.new.number result
         (records_at unit nodes.now) }
     ensures counts { progress.new.number + progress.new.reads
         ≤ progress.old.number + progress.old.reads }
@@ -56,16 +57,16 @@ fn records<R: BufRead>(
 
 /// Reads the record of a node.
 #[tactic(auto, unfolding(hsr_transcript_lines::specs::Parsed::entry_of))]
-fn record<R: BufRead>(
+fn record<R: Read>(
     unit: TimeUnit,
     place: &Place,
     alloc: Global,
-    reader: &mut R,
+    reader: &mut BufReader<R>,
     progress: &mut Progress,
 ) -> Result<Vec<Entry>, ReadFault>
     requires { progress.old.number + progress.old.reads < 2 ^ 64 }
-    ensures given { Gives (λ v. v.items) (R.remaining reader.old)
-        (R.remaining reader.new) progress.old.number progress.new.number result
+    ensures given { Gives (λ v. v.items) (reader_remaining R.remaining reader.old)
+        (reader_remaining R.remaining reader.new) progress.old.number progress.new.number result
         (record_at unit place.now) }
     ensures counts { progress.new.number + progress.new.reads
         ≤ progress.old.number + progress.old.reads }
@@ -87,14 +88,14 @@ ghost use Rattle.std.specs.Prelude.{codes};
 
 /// Reads the rows of a link.
 #[tactic(auto, unfolding(hsr_transcript_lines::specs::Parsed::row_of))]
-fn carried<R: BufRead>(
+fn carried<R: Read>(
     alloc: Global,
-    reader: &mut R,
+    reader: &mut BufReader<R>,
     progress: &mut Progress,
 ) -> Result<Vec<Row>, ReadFault>
     requires { progress.old.number + progress.old.reads < 2 ^ 64 }
-    ensures given { Gives (λ v. v.items) (R.remaining reader.old)
-        (R.remaining reader.new) progress.old.number progress.new.number result
+    ensures given { Gives (λ v. v.items) (reader_remaining R.remaining reader.old)
+        (reader_remaining R.remaining reader.new) progress.old.number progress.new.number result
         (section_at (codes "carried") row_of) }
     ensures counts { progress.new.number + progress.new.reads
         ≤ progress.old.number + progress.old.reads }
@@ -103,15 +104,15 @@ fn carried<R: BufRead>(
 }
 
 /// Reads the rows of each link.
-fn rows<R: BufRead>(
+fn rows<R: Read>(
     links: &[[End; 2]],
     alloc: Global,
-    reader: &mut R,
+    reader: &mut BufReader<R>,
     progress: &mut Progress,
 ) -> Result<Vec<Vec<Row>>, ReadFault>
     requires { progress.old.number + progress.old.reads < 2 ^ 64 }
-    ensures given { Gives rows_of (R.remaining reader.old)
-        (R.remaining reader.new) progress.old.number progress.new.number result
+    ensures given { Gives rows_of (reader_remaining R.remaining reader.old)
+        (reader_remaining R.remaining reader.new) progress.old.number progress.new.number result
         (rows_at links.now) }
     ensures counts { progress.new.number + progress.new.reads
         ≤ progress.old.number + progress.old.reads }
@@ -130,15 +131,15 @@ fn rows<R: BufRead>(
 
 /// Reads the last line.
 #[tactic(auto, using(crate::proofs::Parts::last_told, crate::proofs::Parts::bind_fails), unfolding(crate::specs::Form::end_on))]
-fn end<R: BufRead>(
+fn end<R: Read>(
     plain: Plain,
     alloc: Global,
-    reader: &mut R,
+    reader: &mut BufReader<R>,
     progress: &mut Progress,
 ) -> Result<Plain, ReadFault>
     requires { progress.old.number + progress.old.reads < 2 ^ 64 }
-    ensures given { Gives plain_view (R.remaining reader.old)
-        (R.remaining reader.new) progress.old.number progress.new.number result
+    ensures given { Gives plain_view (reader_remaining R.remaining reader.old)
+        (reader_remaining R.remaining reader.new) progress.old.number progress.new.number result
         (end_on (plain_view plain)) }
     ensures counts { progress.new.number + progress.new.reads
         ≤ progress.old.number + progress.old.reads }
@@ -151,22 +152,22 @@ fn end<R: BufRead>(
 
 /// Reads what follows the records.
 #[tactic(auto, using(crate::proofs::Parts::bind_told, crate::proofs::Parts::bind_fails), unfolding(crate::specs::Form::carried_on))]
-fn behind_records<R: BufRead>(
+fn behind_records<R: Read>(
     unit: TimeUnit,
     nodes: Vec<Place>,
     links: Vec<[End; 2]>,
     main: Vec<u64>,
     records: Vec<Vec<Entry>>,
     alloc: Global,
-    reader: &mut R,
+    reader: &mut BufReader<R>,
     progress: &mut Progress,
 ) -> Result<Plain, ReadFault>
     requires reads { progress.old.number + progress.old.reads ≤ 2 ^ 40 + 1 }
     requires lines { 6 + length nodes.items + length links.items + length main.items + line_count
         (entries_of records) ≤ progress.old.number }
     requires paired { length records.items ≡ length nodes.items }
-    ensures given { Gives plain_view (R.remaining reader.old)
-        (R.remaining reader.new) progress.old.number progress.new.number result
+    ensures given { Gives plain_view (reader_remaining R.remaining reader.old)
+        (reader_remaining R.remaining reader.new) progress.old.number progress.new.number result
         (carried_on unit nodes.items links.items main.items (entries_of records)) }
     ensures counts { progress.new.number + progress.new.reads
         ≤ progress.old.number + progress.old.reads }
@@ -189,20 +190,20 @@ fn behind_records<R: BufRead>(
 
 /// Reads what follows the order of the main worker's entries.
 #[tactic(auto, using(crate::proofs::Parts::bind_told, crate::proofs::Parts::bind_fails), unfolding(crate::specs::Form::records_on))]
-fn behind_main<R: BufRead>(
+fn behind_main<R: Read>(
     unit: TimeUnit,
     nodes: Vec<Place>,
     links: Vec<[End; 2]>,
     main: Vec<u64>,
     alloc: Global,
-    reader: &mut R,
+    reader: &mut BufReader<R>,
     progress: &mut Progress,
 ) -> Result<Plain, ReadFault>
     requires reads { progress.old.number + progress.old.reads ≤ 2 ^ 40 + 1 }
     requires lines { 6 + length nodes.items + length links.items + length main.items
         ≤ progress.old.number }
-    ensures given { Gives plain_view (R.remaining reader.old)
-        (R.remaining reader.new) progress.old.number progress.new.number result
+    ensures given { Gives plain_view (reader_remaining R.remaining reader.old)
+        (reader_remaining R.remaining reader.new) progress.old.number progress.new.number result
         (records_on unit nodes.items links.items main.items) }
     ensures counts { progress.new.number + progress.new.reads
         ≤ progress.old.number + progress.old.reads }
@@ -215,18 +216,18 @@ fn behind_main<R: BufRead>(
 
 /// Reads what follows the links.
 #[tactic(auto, using(crate::proofs::Parts::bind_told, crate::proofs::Parts::bind_fails), unfolding(crate::specs::Form::main_on, hsr_transcript_lines::specs::Parsed::turn_of))]
-fn behind_links<R: BufRead>(
+fn behind_links<R: Read>(
     unit: TimeUnit,
     nodes: Vec<Place>,
     links: Vec<[End; 2]>,
     alloc: Global,
-    reader: &mut R,
+    reader: &mut BufReader<R>,
     progress: &mut Progress,
 ) -> Result<Plain, ReadFault>
     requires reads { progress.old.number + progress.old.reads ≤ 2 ^ 40 + 1 }
     requires lines { 5 + length nodes.items + length links.items ≤ progress.old.number }
-    ensures given { Gives plain_view (R.remaining reader.old)
-        (R.remaining reader.new) progress.old.number progress.new.number result
+    ensures given { Gives plain_view (reader_remaining R.remaining reader.old)
+        (reader_remaining R.remaining reader.new) progress.old.number progress.new.number result
         (main_on unit nodes.items links.items) }
     ensures counts { progress.new.number + progress.new.reads
         ≤ progress.old.number + progress.old.reads }
@@ -239,17 +240,17 @@ fn behind_links<R: BufRead>(
 
 /// Reads what follows the nodes.
 #[tactic(auto, using(crate::proofs::Parts::bind_told, crate::proofs::Parts::bind_fails), unfolding(crate::specs::Form::links_on, hsr_transcript_lines::specs::Parsed::link_of))]
-fn behind_nodes<R: BufRead>(
+fn behind_nodes<R: Read>(
     unit: TimeUnit,
     nodes: Vec<Place>,
     alloc: Global,
-    reader: &mut R,
+    reader: &mut BufReader<R>,
     progress: &mut Progress,
 ) -> Result<Plain, ReadFault>
     requires reads { progress.old.number + progress.old.reads ≤ 2 ^ 40 + 1 }
     requires lines { 4 + length nodes.items ≤ progress.old.number }
-    ensures given { Gives plain_view (R.remaining reader.old)
-        (R.remaining reader.new) progress.old.number progress.new.number result
+    ensures given { Gives plain_view (reader_remaining R.remaining reader.old)
+        (reader_remaining R.remaining reader.new) progress.old.number progress.new.number result
         (links_on unit nodes.items) }
     ensures counts { progress.new.number + progress.new.reads
         ≤ progress.old.number + progress.old.reads }
@@ -263,16 +264,16 @@ fn behind_nodes<R: BufRead>(
 
 /// Reads what follows the first two lines.
 #[tactic(auto, using(crate::proofs::Parts::bind_told, crate::proofs::Parts::bind_fails), unfolding(crate::specs::Form::nodes_on, hsr_transcript_lines::specs::Parsed::place_of))]
-fn behind_table<R: BufRead>(
+fn behind_table<R: Read>(
     unit: TimeUnit,
     alloc: Global,
-    reader: &mut R,
+    reader: &mut BufReader<R>,
     progress: &mut Progress,
 ) -> Result<Plain, ReadFault>
     requires reads { progress.old.number + progress.old.reads ≤ 2 ^ 40 + 1 }
     requires lines { 3 ≤ progress.old.number }
-    ensures given { Gives plain_view (R.remaining reader.old)
-        (R.remaining reader.new) progress.old.number progress.new.number result (nodes_on unit) }
+    ensures given { Gives plain_view (reader_remaining R.remaining reader.old)
+        (reader_remaining R.remaining reader.new) progress.old.number progress.new.number result (nodes_on unit) }
     ensures counts { progress.new.number + progress.new.reads
         ≤ progress.old.number + progress.old.reads }
 {
@@ -295,17 +296,17 @@ fn table_line(alloc: Global, capacity: usize) -> Result<Vec<u8>, NoMemory>
 
 /// Reads what follows the first line, of tables with `capacity` entries, with moments in this unit.
 #[tactic(auto, using(crate::proofs::Parts::bind_told, crate::proofs::Parts::bind_fails), unfolding(crate::specs::Form::table_on))]
-fn behind_version<R: BufRead>(
+fn behind_version<R: Read>(
     capacity: usize,
     unit: TimeUnit,
     alloc: Global,
-    reader: &mut R,
+    reader: &mut BufReader<R>,
     progress: &mut Progress,
 ) -> Result<Plain, ReadFault>
     requires reads { progress.old.number + progress.old.reads ≤ 2 ^ 40 + 1 }
     requires lines { 2 ≤ progress.old.number }
-    ensures given { Gives plain_view (R.remaining reader.old)
-        (R.remaining reader.new) progress.old.number progress.new.number result
+    ensures given { Gives plain_view (reader_remaining R.remaining reader.old)
+        (reader_remaining R.remaining reader.new) progress.old.number progress.new.number result
         (table_on capacity unit) }
     ensures counts { progress.new.number + progress.new.reads
         ≤ progress.old.number + progress.old.reads }
@@ -321,16 +322,16 @@ fn behind_version<R: BufRead>(
 
 /// Reads all lines of a text.
 #[tactic(auto, using(crate::proofs::Parts::bind_told, crate::proofs::Parts::bind_fails), unfolding(crate::specs::Form::said_at))]
-fn all_lines<R: BufRead>(
+fn all_lines<R: Read>(
     capacity: usize,
     alloc: Global,
-    reader: &mut R,
+    reader: &mut BufReader<R>,
     progress: &mut Progress,
 ) -> Result<Plain, ReadFault>
     requires reads { progress.old.number + progress.old.reads ≤ 2 ^ 40 + 1 }
     requires lines { 1 ≤ progress.old.number }
-    ensures given { Gives plain_view (R.remaining reader.old)
-        (R.remaining reader.new) progress.old.number progress.new.number result (said_at capacity) }
+    ensures given { Gives plain_view (reader_remaining R.remaining reader.old)
+        (reader_remaining R.remaining reader.new) progress.old.number progress.new.number result (said_at capacity) }
     ensures counts { progress.new.number + progress.new.reads
         ≤ progress.old.number + progress.old.reads }
 {
@@ -342,8 +343,12 @@ fn all_lines<R: BufRead>(
 
 /// Reads what the lines of a whole text say that is in form, of tables with `capacity` entries.
 #[tactic(auto, using(crate::proofs::Parts::form_told, crate::proofs::Parts::form_more, crate::proofs::Parts::form_fails))]
-fn whole<R: BufRead>(capacity: usize, alloc: Global, reader: &mut R) -> Result<Plain, ReadFault>
-    ensures { Says plain_view (R.remaining reader.old) result (form_of capacity) }
+fn whole<R: Read>(
+    capacity: usize,
+    alloc: Global,
+    reader: &mut BufReader<R>,
+) -> Result<Plain, ReadFault>
+    ensures { Says plain_view (reader_remaining R.remaining reader.old) result (form_of capacity) }
 {
     let mut progress = Progress::new(alloc);
     match all_lines(capacity, alloc, reader, &mut progress) {

@@ -1,5 +1,6 @@
 //! Sections of lines, read.
 ghost use Rattle.std.specs.Prelude.{◌≡◌, [], ◌+◌, ◌≤◌, ◌<◌, ◌^◌, List, Option, ℕ, codes, length, IfErr, IfOk, OnOk};
+ghost use Rattle.std.specs.Io.Buffered.{reader_remaining};
 ghost use Rattle.hsr_transcript.specs.Form.{only_at, section_at, version_at};
 ghost use Rattle.hsr_transcript_lines.specs.Exact.{exactly};
 ghost use Rattle.hsr_transcript.specs.Reading.{line_at, line_of, many as many_at};
@@ -9,10 +10,10 @@ ghost use Rattle.hsr_transcript.specs.declared.fault.ReadFault.TheVariants.{BadL
 use crate::fault::ReadFault;
 use crate::version::VersionLine;
 use arrayvec::ArrayVec;
-use hsr_text::{Front, READ_LIMIT, TimeUnit, WordFault, next_line};
+use hsr_text::{Front, READ_LIMIT, TimeUnit, WordFault, line_there, next_line};
 use hsr_transcript_lines::{CountLine, FixedLine, LineKind, read_line};
 use std::alloc::Global;
-use std::io::BufRead;
+use std::io::{BufRead, BufReader, Read};
 
 /// The most octets of a line, without its line feed.
 const LINE_LIMIT: usize = 8192;
@@ -46,10 +47,10 @@ impl Progress {
 
 /// Reads the next line.
 #[tactic(auto, using(crate::proofs::Parts::line_given, crate::proofs::Parts::line_ends, crate::proofs::Parts::line_long))]
-fn next<R: BufRead>(reader: &mut R, progress: &mut Progress) -> Result<(), ReadFault>
+fn next<R: Read>(reader: &mut BufReader<R>, progress: &mut Progress) -> Result<(), ReadFault>
     requires { progress.old.number + progress.old.reads < 2 ^ 64 }
-    ensures given { Gives (λ _. progress.new.line.items) (R.remaining reader.old)
-        (R.remaining reader.new) progress.old.number progress.new.number result (line_at BadLine) }
+    ensures given { Gives (λ _. progress.new.line.items) (reader_remaining R.remaining reader.old)
+        (reader_remaining R.remaining reader.new) progress.old.number progress.new.number result (line_at BadLine) }
     ensures counted { progress.new.number + progress.new.reads
         ≤ progress.old.number + progress.old.reads }
     ensures numbered { OnOk result (progress.new.number ≡ progress.old.number + 1) }
@@ -73,17 +74,17 @@ fn next<R: BufRead>(reader: &mut R, progress: &mut Progress) -> Result<(), ReadF
     }
 }
 
-/// Reads the next line, which is of a kind.
+/// Gathers the next line, however the reader cuts it into pieces, and reads it, which is of a kind.
 #[tactic(auto, using(crate::proofs::Parts::one_given, crate::proofs::Parts::one_bad, crate::proofs::Parts::one_fails))]
-pub(crate) fn one<R: BufRead, K: LineKind>(
+fn gathered_one<R: Read, K: LineKind>(
     kind: &K,
     alloc: Global,
-    reader: &mut R,
+    reader: &mut BufReader<R>,
     progress: &mut Progress,
 ) -> Result<K::Value, ReadFault>
     requires { progress.old.number + progress.old.reads < 2 ^ 64 }
-    ensures given { Gives (λ v. v) (R.remaining reader.old)
-        (R.remaining reader.new) progress.old.number progress.new.number result
+    ensures given { Gives (λ v. v) (reader_remaining R.remaining reader.old)
+        (reader_remaining R.remaining reader.new) progress.old.number progress.new.number result
         (line_of (exactly (K.spelled kind.now) (K.said kind.now))) }
     ensures counted { progress.new.number + progress.new.reads
         ≤ progress.old.number + progress.old.reads }
@@ -101,6 +102,42 @@ pub(crate) fn one<R: BufRead, K: LineKind>(
     }
 }
 
+/// Reads the next line, which is of a kind.
+pub(crate) fn one<R: Read, K: LineKind>(
+    kind: &K,
+    alloc: Global,
+    reader: &mut BufReader<R>,
+    progress: &mut Progress,
+) -> Result<K::Value, ReadFault>
+    requires { progress.old.number + progress.old.reads < 2 ^ 64 }
+    ensures given { Gives (λ v. v) (reader_remaining R.remaining reader.old)
+        (reader_remaining R.remaining reader.new) progress.old.number progress.new.number result
+        (line_of (exactly (K.spelled kind.now) (K.said kind.now))) }
+    ensures counted { progress.new.number + progress.new.reads
+        ≤ progress.old.number + progress.old.reads }
+    ensures numbered { OnOk result (progress.new.number ≡ progress.old.number + 1) }
+{
+    // Most lines stand whole in the buffer, and are read where they stand.
+    match line_there(reader.buffer(), LINE_LIMIT, progress.reads) {
+        None => gathered_one(kind, alloc, reader, progress),
+        Some(line) => {
+            let taken = line.len() + 1;
+            match read_line(kind, alloc, line, &mut progress.spelled) {
+                Ok(value) => {
+                    progress.reads -= taken as u64;
+                    progress.number += 1;
+                    reader.consume(taken);
+                    Ok(value)
+                }
+                Err(WordFault::Bad) => Err(ReadFault::BadLine {
+                    number: progress.number,
+                }),
+                Err(WordFault::Memory) => Err(ReadFault::NoMemory),
+            }
+        }
+    }
+}
+
 /// Room for the values that a text claims. It may claim any count: beyond this many, room grows with the lines that are there.
 fn room_for<T>(alloc: Global, count: u64) -> Result<Vec<T>, ReadFault>
     ensures ok { IfOk result (λ values. values.items ≡ []) }
@@ -113,16 +150,16 @@ fn room_for<T>(alloc: Global, count: u64) -> Result<Vec<T>, ReadFault>
 }
 
 /// Reads lines, each of a kind.
-pub(crate) fn many<R: BufRead, K: LineKind>(
+pub(crate) fn many<R: Read, K: LineKind>(
     kind: &K,
     alloc: Global,
-    reader: &mut R,
+    reader: &mut BufReader<R>,
     progress: &mut Progress,
     count: u64,
 ) -> Result<Vec<K::Value>, ReadFault>
     requires { progress.old.number + progress.old.reads < 2 ^ 64 }
-    ensures given { Gives (λ v. v.items) (R.remaining reader.old)
-        (R.remaining reader.new) progress.old.number progress.new.number result
+    ensures given { Gives (λ v. v.items) (reader_remaining R.remaining reader.old)
+        (reader_remaining R.remaining reader.new) progress.old.number progress.new.number result
         (many_at (line_of (exactly (K.spelled kind.now) (K.said kind.now))) count) }
     ensures counted { progress.new.number + progress.new.reads
         ≤ progress.old.number + progress.old.reads }
@@ -145,16 +182,16 @@ pub(crate) fn many<R: BufRead, K: LineKind>(
 
 /// Reads a section: a line that says how many, and as many lines of a kind.
 #[tactic(auto, using(crate::proofs::Parts::bind_told, crate::proofs::Parts::bind_fails), unfolding(crate::specs::Form::section_at, hsr_transcript_lines::specs::Parsed::count_of))]
-pub(crate) fn section<R: BufRead, K: LineKind>(
+pub(crate) fn section<R: Read, K: LineKind>(
     name: &[u8],
     kind: &K,
     alloc: Global,
-    reader: &mut R,
+    reader: &mut BufReader<R>,
     progress: &mut Progress,
 ) -> Result<Vec<K::Value>, ReadFault>
     requires { progress.old.number + progress.old.reads < 2 ^ 64 }
-    ensures given { Gives (λ v. v.items) (R.remaining reader.old)
-        (R.remaining reader.new) progress.old.number progress.new.number result
+    ensures given { Gives (λ v. v.items) (reader_remaining R.remaining reader.old)
+        (reader_remaining R.remaining reader.new) progress.old.number progress.new.number result
         (section_at name.now (exactly (K.spelled kind.now) (K.said kind.now))) }
     ensures counts { progress.new.number + progress.new.reads
         ≤ progress.old.number + progress.old.reads }
@@ -169,15 +206,15 @@ pub(crate) fn section<R: BufRead, K: LineKind>(
 
 /// Reads a line that stands in each text.
 #[tactic(auto, unfolding(crate::specs::Form::only_at))]
-pub(crate) fn fixed<R: BufRead>(
+pub(crate) fn fixed<R: Read>(
     line: &[u8],
     alloc: Global,
-    reader: &mut R,
+    reader: &mut BufReader<R>,
     progress: &mut Progress,
 ) -> Result<(), ReadFault>
     requires { progress.old.number + progress.old.reads < 2 ^ 64 }
-    ensures given { Gives (λ v. v) (R.remaining reader.old)
-        (R.remaining reader.new) progress.old.number progress.new.number result (only_at line.now) }
+    ensures given { Gives (λ v. v) (reader_remaining R.remaining reader.old)
+        (reader_remaining R.remaining reader.new) progress.old.number progress.new.number result (only_at line.now) }
     ensures counts { progress.new.number + progress.new.reads
         ≤ progress.old.number + progress.old.reads }
     ensures numbered { OnOk result (progress.new.number ≡ progress.old.number + 1) }
@@ -200,14 +237,14 @@ ghost use Rattle.hsr_transcript.specs.Form.{as_version};
 
 /// Reads the first line, whose version says the unit of moments.
 #[tactic(auto, using(crate::proofs::Parts::version_given, crate::proofs::Parts::version_fails), unfolding(hsr_transcript_lines::specs::Parsed::version_of))]
-pub(crate) fn version<R: BufRead>(
+pub(crate) fn version<R: Read>(
     alloc: Global,
-    reader: &mut R,
+    reader: &mut BufReader<R>,
     progress: &mut Progress,
 ) -> Result<TimeUnit, ReadFault>
     requires { progress.old.number + progress.old.reads < 2 ^ 64 }
-    ensures given { Gives (λ v. v) (R.remaining reader.old)
-        (R.remaining reader.new) progress.old.number progress.new.number result version_at }
+    ensures given { Gives (λ v. v) (reader_remaining R.remaining reader.old)
+        (reader_remaining R.remaining reader.new) progress.old.number progress.new.number result version_at }
     ensures counts { progress.new.number + progress.new.reads
         ≤ progress.old.number + progress.old.reads }
     ensures numbered { OnOk result (progress.new.number ≡ progress.old.number + 1) }
@@ -219,11 +256,11 @@ pub(crate) fn version<R: BufRead>(
 }
 
 /// Whether nothing is left.
-pub(crate) fn nothing_more<R: BufRead>(
-    reader: &mut R,
+pub(crate) fn nothing_more<R: Read>(
+    reader: &mut BufReader<R>,
     progress: &mut Progress,
 ) -> Result<(), ReadFault>
-    ensures { Ends (R.remaining reader.old) progress.old.number result }
+    ensures { Ends (reader_remaining R.remaining reader.old) progress.old.number result }
 {
     let number = progress.number;
     // One octet is enough to tell that something is left.

@@ -33,30 +33,30 @@ upper_parts [] ys = refl
 upper_parts (x ∷ xs) ys = ap (λ t. nat_lt x 97 && t) (upper_parts xs ys) ∙ sym (and_assoc (nat_lt x 97) (is_upper xs) (is_upper ys))
 
 -- a block more
-pub more_upper : (word : List ℕ) (at m : ℕ) → m ≡ at + 16 → is_upper (take 16 (drop at word)) ≡ true → is_upper (take at word) ≡ true
+pub more_upper : (word : List ℕ) (at m : ℕ) → m ≡ at + 32 → is_upper (take 32 (drop at word)) ≡ true → is_upper (take at word) ≡ true
     → is_upper (take m word) ≡ true
 more_upper word at m is block before =
-    ap (λ (n : ℕ). is_upper (take n word)) is ∙ ap is_upper (take-add at 16 word) ∙ upper_parts (take at word) (take 16 (drop at word))
+    ap (λ (n : ℕ). is_upper (take n word)) is ∙ ap is_upper (take-add at 32 word) ∙ upper_parts (take at word) (take 32 (drop at word))
     ∙ rw (before, block) refl
 
 -- a block with a lower-case letter
-pub block_not_upper : (word : List ℕ) (at : ℕ) → is_upper (take 16 (drop at word)) ≡ false → is_upper word ≡ false
+pub block_not_upper : (word : List ℕ) (at : ℕ) → is_upper (take 32 (drop at word)) ≡ false → is_upper word ≡ false
 block_not_upper word at other =
     let rest : List ℕ = drop at word in
     let here : is_upper rest ≡ false
-    = ap is_upper (sym (take-append-drop 16 rest)) ∙ upper_parts (take 16 rest) (drop 16 rest) ∙ rw other refl in
+    = ap is_upper (sym (take-append-drop 32 rest)) ∙ upper_parts (take 32 rest) (drop 32 rest) ∙ rw other refl in
     ap is_upper (sym (take-append-drop at word)) ∙ upper_parts (take at word) rest ∙ rw here (and-false (is_upper (take at word)))
 
 -- the last block, which may lie over a part of the one before it
-pub last_upper : (word : List ℕ) (last whole : ℕ) → last ≤ whole → last + 16 ≡ length word → is_upper (take whole word) ≡ true
-    → is_upper (take 16 (drop last word)) ≡ is_upper word
+pub last_upper : (word : List ℕ) (last whole : ℕ) → last ≤ whole → last + 32 ≡ length word → is_upper (take whole word) ≡ true
+    → is_upper (take 32 (drop last word)) ≡ is_upper word
 last_upper word last whole within is before =
     let n : ℕ = whole - last in
     let sum : last + n ≡ whole = omega arith in
     let parts : (is_upper (take last word) && is_upper (take n (drop last word))) ≡ true
     = sym (upper_parts (take last word) (take n (drop last word))) ∙ ap is_upper (sym (take-add last n word)) ∙ ap (λ (k : ℕ). is_upper (take k word)) sum ∙ before in
     let front : is_upper (take last word) ≡ true = (and_parts (is_upper (take last word)) _ parts).0 in
-    let all : take 16 (drop last word) ≡ drop last word = take_all 16 (drop last word) (omega (arith, length-drop last word)) in
+    let all : take 32 (drop last word) ≡ drop last word = take_all 32 (drop last word) (omega (arith, length-drop last word)) in
     let whole_is : is_upper word ≡ is_upper (drop last word)
     = ap is_upper (sym (take-append-drop last word)) ∙ upper_parts (take last word) (drop last word) ∙ rw front refl in
     ap is_upper all ∙ sym whole_is

@@ -97,6 +97,8 @@ fn form_copy(alloc: Global, lane: &mut Lane, place: &Place, here: Probe, entry: 
 }
 
 /// The copy that leaves its node by a lane joins its outbox; `here` names the entry.
+// A call of its own, so that lanes of the other node take no more than a look at whose they are.
+#[inline(never)]
 #[tactic(auto, unfolding(hsr_node::specs::Copies::copy_octets))]
 fn add_copy(alloc: Global, lane: &mut Lane, place: &Place, here: Probe, entry: &Entry)
     requires node { lane.old.from.node ≡ here.node }
@@ -113,6 +115,8 @@ fn add_copy(alloc: Global, lane: &mut Lane, place: &Place, here: Probe, entry: &
 }
 
 /// The copy that leaves by a lane joins its outbox, if the lane is one of its node; `here` names the entry.
+// Inline, as half of the lanes at a node's links are of the other node.
+#[inline(always)]
 pub(crate) fn commit_lane(alloc: Global, lane: &mut Lane, place: &Place, here: Probe, entry: &Entry)
     requires { IsReady here.node lane.old }
     ensures { lane_view lane.new ≡ given_lane place.now (receipt_of here entry.now)

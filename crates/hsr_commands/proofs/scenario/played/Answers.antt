@@ -8,8 +8,8 @@ use Rattle.hsr_commands.specs.ScenarioRun.{IsUnplayed}
 use Rattle.hsr_commands.proofs.Said.{unplayed}
 use Rattle.hsr_commands.proofs.scenario.played.Goals as goal
 
-pub returns-clause-err : goal.returns-clause-err
-returns-clause-err g c =
+pub returns-in-Err-play-clause-err : goal.returns-in-Err-play-clause-err
+returns-in-Err-play-clause-err g c =
     let from : World → Type 0 = λ w. Halts g.row.C c.in-Ok.scenario.steps.items c.in-Err-play.step w c.play.new.world c.in-Err-play.fault in
     let of : List Order → Type 0 = λ os. Halts g.row.C os c.in-Err-play.step c.in-Ok-new.world c.play.new.world c.in-Err-play.fault in
     subst (IsUnplayed g.row.C (scenario_of c.args.octets.now)) (sym c.of_step.ensures)

@@ -1,4 +1,5 @@
 use Rattle.std.proofs.Common.{◌≡◌, ◌+◌, ◌∙◌, map, sym, ap, arith, [], ◌∷◌, ◌++◌, drop, length, length-append}
+use Rattle.std.specs.Io.Buffered.{reader_remaining}
 use Rattle.std.proofs.lemmas.Grind.{common_steps}
 use Rattle.std.proofs.lemmas.List.{map-append, drop_all}
 use Rattle.hsr_transcript.specs.Form.{record_at, records_at}
@@ -17,7 +18,7 @@ loop-i-preserved g c =
     let items : c.push.new.self.items ≡ c.loop-i.records.items ++ c.in-Ok.record ∷ [] = grind (arith, common_steps) in
     let pushed : entries_of c.push.new.self ≡ entries_of c.loop-i.records ++ entry_items c.in-Ok.record ∷ [] = ap (map entry_items) items ∙ map-append entry_items _ _ in
     record {
-      part = each_pushed entry_items (record_at c.args.unit) (g.R.Read.remaining c.args.reader.now) (g.R.Read.remaining c.loop-i.reader) (g.R.Read.remaining c.record.new.reader) c.args.progress.now.number
+      part = each_pushed entry_items (record_at c.args.unit) (reader_remaining g.R.Read.remaining c.args.reader.now) (reader_remaining g.R.Read.remaining c.loop-i.reader) (reader_remaining g.R.Read.remaining c.record.new.reader) c.args.progress.now.number
           c.loop-i.progress.number c.record.new.progress.number nodes (drop i nodes) (drop (i + 1) nodes) place
           (entries_of c.loop-i.records) (entries_of c.push.new.self) c.in-Ok.record next pushed c.loop-i.invariant.part c.in-Ok.ensures.given;
       counted = omega arith;
@@ -32,11 +33,11 @@ returns-in-Err-clause-given g c =
     let nodes = c.args.nodes.now in
     let place = c.index-nodes-i.result in
     let next : drop i nodes ≡ place ∷ drop (i + 1) nodes = drop_next nodes i place c.loop-i-test.true ∙ ap (λ x. x ∷ drop (i + 1) nodes) (sym c.index-nodes-i.is) in
-    each_fail entry_items entries_of (record_at c.args.unit) (g.R.Read.remaining c.args.reader.now) (g.R.Read.remaining c.loop-i.reader) (g.R.Read.remaining c.record.new.reader) c.args.progress.now.number
+    each_fail entry_items entries_of (record_at c.args.unit) (reader_remaining g.R.Read.remaining c.args.reader.now) (reader_remaining g.R.Read.remaining c.loop-i.reader) (reader_remaining g.R.Read.remaining c.record.new.reader) c.args.progress.now.number
     c.loop-i.progress.number c.record.new.progress.number nodes (drop i nodes) (drop (i + 1) nodes) place (entries_of c.loop-i.records) c.in-Err.fault next c.loop-i.invariant.part c.in-Err.ensures.given
 
 pub returns-clause-given : goal.returns-clause-given
 unfolding records_at
 returns-clause-given g c =
-    each_done entries_of (record_at c.args.unit) (g.R.Read.remaining c.args.reader.now) (g.R.Read.remaining c.loop-i.reader) c.args.progress.now.number c.loop-i.progress.number
+    each_done entries_of (record_at c.args.unit) (reader_remaining g.R.Read.remaining c.args.reader.now) (reader_remaining g.R.Read.remaining c.loop-i.reader) c.args.progress.now.number c.loop-i.progress.number
     c.args.nodes.now (drop c.loop-i.i c.args.nodes.now) c.loop-i.records (drop_all c.loop-i.i c.args.nodes.now c.loop-i-test.false) c.loop-i.invariant.part

@@ -9,21 +9,21 @@ loop-block-init c = refl
 
 pub returns-then-not-is_block_upper : goal.returns-then-not-is_block_upper
 returns-then-not-is_block_upper c =
-    let at : ℕ = 16 * c.loop-block.block in
-    let block : is_upper (take 16 (drop at c.args.word.now)) ≡ false
+    let at : ℕ = 32 * c.loop-block.block in
+    let block : is_upper (take 32 (drop at c.args.word.now)) ≡ false
     = rw (take_rest c.args.word.now at) at (sym c.is_block_upper.ensures ∙ c.if-not-is_block_upper.true) in
     sym (block_not_upper c.args.word.now at block)
 
 pub loop-block-preserved : goal.loop-block-preserved
 loop-block-preserved c =
-    let at : ℕ = 16 * c.loop-block.block in
-    let block : is_upper (take 16 (drop at c.args.word.now)) ≡ true
+    let at : ℕ = 32 * c.loop-block.block in
+    let block : is_upper (take 32 (drop at c.args.word.now)) ≡ true
     = rw (take_rest c.args.word.now at) at (sym c.is_block_upper.ensures ∙ c.if-not-is_block_upper.false) in
-    more_upper c.args.word.now at (16 * (c.loop-block.block + 1)) (omega arith) block c.loop-block.invariant
+    more_upper c.args.word.now at (32 * (c.loop-block.block + 1)) (omega arith) block c.loop-block.invariant
 
 pub returns : goal.returns
 returns c =
-    let last : ℕ = length c.args.word.now - 16 in
-    let block : c.is_block_upper-2.result ≡ is_upper (take 16 (drop last c.args.word.now))
+    let last : ℕ = length c.args.word.now - 32 in
+    let block : c.is_block_upper-2.result ≡ is_upper (take 32 (drop last c.args.word.now))
     = rw (take_rest c.args.word.now last) at c.is_block_upper-2.ensures in
-    block ∙ last_upper c.args.word.now last (16 * c.loop-block.block) (omega (arith, c.div_ceil-block-end.ensures)) (omega arith) c.loop-block.invariant
+    block ∙ last_upper c.args.word.now last (32 * c.loop-block.block) (omega (arith, c.div_ceil-block-end.ensures)) (omega arith) c.loop-block.invariant

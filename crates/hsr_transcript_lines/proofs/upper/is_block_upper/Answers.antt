@@ -8,7 +8,7 @@ use Rattle.hsr_transcript_lines.proofs.upper.is_block_upper.Goals as goal
 
 pub returns : goal.returns
 returns c =
-    let octets : List ℕ = take 16 c.args.word.now in
-    let long = length-take-le 16 c.args.word.now c.requires in
-    ap (λ l. (mask_l l % 18446744073709551616) == 0) (tops_compared w8 nat_le (replicate 16 97) octets ∙ zip2_splat_left nat_le 97 16 octets long)
+    let octets : List ℕ = take 32 c.args.word.now in
+    let long = length-take-le 32 c.args.word.now c.requires in
+    ap (λ l. (mask_l l % 18446744073709551616) == 0) (tops_compared w8 nat_le (replicate 32 97) octets ∙ zip2_splat_left nat_le 97 32 octets long)
     ∙ ap (λ (n : ℕ). n == 0) (mask_l-mod (map (nat_le 97) octets) 64 (omega (arith, length-map octets (nat_le 97), long))) ∙ none_set octets

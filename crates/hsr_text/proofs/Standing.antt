@@ -18,14 +18,14 @@ shown_first false buffer None = tt
 shown_first false buffer (Some xs) = take-append_seam buffer xs
 
 -- a line that stands there is the next line of the text
-pub line_read : (old new : Option (List ℕ)) (buffer line rest : List ℕ) → IfSome old (λ xs. StartsWith xs buffer) → cut 10 buffer ≡ (line, Some rest)
-    → DropsConsumable old new (Some (length buffer)) (length line + 1) → ReadsFront 4096 old new line FrontLine
-line_read None new buffer line rest shown e drops = tt
-line_read (Some text) new buffer line rest shown e drops =
-    let filled = line_filled 4096 (length buffer) buffer line rest [] line (ap (cut 10) (take_all (length buffer + 1) buffer (omega arith)) ∙ e) refl in
+pub line_read : (most : ℕ) (old new : Option (List ℕ)) (buffer line rest : List ℕ) → IfSome old (λ xs. StartsWith xs buffer) → cut 10 buffer ≡ (line, Some rest)
+    → DropsConsumable old new (Some (length buffer)) (length line + 1) → ReadsFront most old new line FrontLine
+line_read most None new buffer line rest shown e drops = tt
+line_read most (Some text) new buffer line rest shown e drops =
+    let filled = line_filled most (length buffer) buffer line rest [] line (ap (cut 10) (take_all (length buffer + 1) buffer (omega arith)) ∙ e) refl in
     let moved : Consumes (Some text) new (take (length line + 1) buffer) =
     (Consumes_shown (Some text) (Some text) new (Some (length buffer)) buffer (length line + 1) filled.1 shown (λ none. absurd (omega (arith, filled.1))) refl (omega arith) drops).0 in
-    ends 4096 (Some text) (Some text) new [] line FrontLine (text, refl, refl) refl (take (length line + 1) buffer, moved, filled.2, λ other. absurd (cc))
+    ends most (Some text) (Some text) new [] line FrontLine (text, refl, refl) refl (take (length line + 1) buffer, moved, filled.2, λ other. absurd (cc))
 
 -- what would be left behind it
 pub left_behind : Option (List ℕ) → List ℕ → Option (List ℕ)
