@@ -102,8 +102,8 @@ impl Numbers {
     pub fn lowest(&self) -> Option<usize>
         ensures { IsLowest 512 self.now result }
     {
-        // Asked first: of the sets of a drain all but one are mostly empty.
-        if are_empty(&self.words) {
+        // Asked first: of the sets of a drain all but one are mostly empty, and those of small worlds have no number behind the first word.
+        if self.words[0] == 0 && are_empty(&self.words) {
             return None;
         }
         lowest_of(&self.words)

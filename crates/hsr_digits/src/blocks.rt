@@ -115,6 +115,27 @@ fn are_marked(lanes: u8x16) -> bool
     lanes.reduce_and() >= 0xF0
 }
 
+/// Each two lanes as one octet, the second of two: 16 times the first, and the second.
+#[inline(always)]
+fn joined(lanes: u8x16) -> u8x16
+    ensures { (j : ℕ) → j < 8 → slice_index result (2 * j + 1)
+        ≡ (16 * slice_index lanes (2 * j) + slice_index lanes (2 * j + 1)) % 256 }
+{
+    // As a number of 16 bits the two are joined by one multiplication, where lanes of octets would have to be parted, shifted and masked.
+    (u16x8::from_le_bytes(lanes) * u16x8::splat(0x1001)).to_le_bytes()
+}
+
+/// The octets that 32 lanes of digits spell.
+#[inline(always)]
+fn octets_of(first: u8x16, second: u8x16) -> u8x16
+    ensures { (j : ℕ) → j < 16 → slice_index result j
+        ≡ (16 * slice_index (first ++ second) (2 * j) + slice_index (first ++ second) (2 * j + 1) + 16) % 256 }
+{
+    let (_, octets) = joined(first).deinterleave(joined(second));
+    // Both lanes of a digit have 240 too much: 17 times 240 is 16 less than a multiple of 256.
+    octets + u8x16::splat(16)
+}
+
 /// Reads the first 32 digits into the first 16 octets, and keeps in `seen` the bits that all lanes of digits share: whether all were digits
 /// is asked once, behind the last block.
 #[inline(always)]
@@ -128,10 +149,10 @@ fn read_block(octets: &mut [u8], digits: &[u8], seen: u8x16) -> u8x16
         → pair_value (slice_index digits.now (2 * j)) (slice_index digits.now (2 * j + 1)) k
         ≡ Ok (slice_index octets.new j) }
 {
-    let (high, low) = u8x16::from_slice(digits).deinterleave(u8x16::from_slice(&digits[16..]));
-    let (high, low) = (marked_values(high), marked_values(low));
-    ((high << u8x16::splat(4)) | (low & u8x16::splat(15))).copy_to_slice(octets);
-    seen & high & low
+    let first = marked_values(u8x16::from_slice(digits));
+    let second = marked_values(u8x16::from_slice(&digits[16..]));
+    octets_of(first, second).copy_to_slice(octets);
+    seen & first & second
 }
 
 /// Writes the digits of 16 octets or more, in upper case.

@@ -3,4 +3,4 @@
 #![tactic(auto)]
 
 /// The version of the programs, and the logic that they are proved in. Kits of different days may share it.
-pub const VERSION: &str = "1.15.0 (rattle logic dac8208d650f15bf)";
+pub const VERSION: &str = "1.16.0 (rattle logic dac8208d650f15bf)";
