@@ -54,9 +54,11 @@ fn answer_request<const C: usize>(
     ensures { Gives (λ _. (text.new.items, node.new)) result
         (answer_to C place.now node.old (Some request.now)) }
 {
-    match node.apply(request.at, &request.event) {
-        Ok(outcome) => tell_outcome(text, place, &request.event, &outcome),
-        Err(fault) => tell_refusal(text, fault),
+    let done = node.apply(request.at, &request.event);
+    // Told where it stands: a result that is moved as soon as it is written waits for memory.
+    match &done {
+        Ok(outcome) => tell_outcome(text, place, &request.event, outcome),
+        Err(fault) => tell_refusal(text, *fault),
     }
 }
 
@@ -79,6 +81,7 @@ fn answer_read<const C: usize>(
 }
 
 /// Takes the room that octets have for themselves, if they have such.
+#[inline(always)]
 fn take_back(room: &mut Vec<u8>, octets: Octets) {
     if let Some(own) = octets.into_room() {
         *room = own;
@@ -86,6 +89,8 @@ fn take_back(room: &mut Vec<u8>, octets: Octets) {
 }
 
 /// Takes the room that the octets of a request have for themselves back, if they have such.
+// Inline, since a call would move the request once more.
+#[inline(always)]
 fn put_back(room: &mut Vec<u8>, read: Result<Request, WordFault>) {
     let Ok(request) = read else {
         return;

@@ -155,6 +155,8 @@ fn read_age(unit: TimeUnit, rest: Option<&[u8]>) -> Result<Request, WordFault>
 }
 
 /// Reads a line by its first word.
+// Inline, since what a call gives back would be moved once more, and an arrival with it.
+#[inline(always)]
 #[tactic(auto, unfolding(crate::specs::Request::request_of))]
 fn read_by_verb(room: Vec<u8>, setting: &Setting, line: &[u8]) -> Result<Request, WordFault>
     ensures { Gives (λ r. r) result (request_of setting.now line.now) }
